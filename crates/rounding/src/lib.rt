@@ -1,0 +1,1 @@
+// Theory alone: the facts on rounded numbers stand in specs/.
