@@ -1,10 +1,9 @@
 -- Demand 3, "Accounted for": for every two trees that the check accepts, at every radius, NaN included. The only premise is acceptance. Assumes nothing.
 -- specs/Limits.antt bounds the visits and what waits.
 use mathlib.Core.Path.{_≡_, refl, sym, ap₂, _∙_}
-use mathlib.Core.Logic.{_⊎_}
 use mathlib.Core.Bool.{Bool, true, false, cond}
 use mathlib.Core.List.{List}
-use Prim.Native.Nat.{ℕ, _+_, _*_, _≤_, _<_}
+use Prim.Native.Nat.{ℕ, _+_, _*_, _<_}
 use native.Mathlib.Omega.{arith}
 use lib.Dec.{T}
 use lib.Ieee.{Float, le}
@@ -18,7 +17,7 @@ use Rattle.written.specs.Totals.{none, totalsOf, walkTotals, nearTotals,
 use Rattle.written.specs.Answers.{Accepts}
 use Rattle.written.specs.Right.{nearest-least}
 use Rattle.written.specs.Laws.Places.{ind-in}
-use Rattle.written.specs.Laws.Visits.{at, ends-map}
+use Rattle.written.specs.Laws.Visits.{ends-map}
 use Rattle.written.specs.Laws.Covered.{Tiled, Fair, ends-at, under-in, totals-area, totals-once}
 use Rattle.written.specs.Laws.Pairs.{kept-none, kept-one, walk-tiled, walk-sound, walk-left, walk-right}
 use Rattle.written.specs.Laws.Nearest.{HeldOffer, near-carried, near-left, near-right}

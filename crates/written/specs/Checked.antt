@@ -1,22 +1,18 @@
 -- The computed check against the rules as sentences: each test means its rule, the number is that of the first rule broken, and no other is. Assumes nothing.
 use mathlib.Core.Path.{_≡_, refl, sym, ap, _∙_, subst}
-use mathlib.Core.Logic.{_⊎_, inl, inr, _↔_}
-use mathlib.Core.Bool.{Bool, true, false, not, _&&_, cond}
-use mathlib.Core.List.{List, [], _∷_}
-use Prim.Native.Nat.{ℕ, zero, suc, _+_, _-_, _*_, _≤_, _<_}
-use native.Mathlib.Nat.{mod-lt}
-use native.Mathlib.Decide.{decLt, ℕ-discrete}
+use mathlib.Core.Logic.{_↔_}
+use mathlib.Core.Bool.{Bool, true, false, _&&_, cond}
+use mathlib.Core.List.{[], _∷_}
+use Prim.Native.Nat.{ℕ, suc, _-_, _*_, _≤_, _<_}
+use native.Mathlib.Decide.{decLt}
 use native.Mathlib.Omega.{arith}
-use lib.Arith.{digits-lt}
 use lib.ListN.{length, getD}
-use lib.Dec.{T, leb, eqb}
-use lib.Ieee.{Float, nan, inf, fin, lt, le, isNan}
+use lib.Dec.{leb, eqb}
+use lib.Ieee.{nan}
 use lib.Ieee.Scale.{finite}
-use Rattle.rounding.specs.Order.{known, finite-known, not-lt→le}
-use Rattle.written.specs.Places.{In}
-use Rattle.written.specs.LentTree.{Tree, leaves, places, start, coord, stemCount, Cursor, root, span, near, far, Node, axis, pivot, part}
-use Rattle.written.specs.Check.{every, isTop, leafOk, pivotOk, leftOk, rightOk, topOk, Rule, rule₁, rule₂, rule₃, rule₄, rule₅, rule₆, rule₇, numberOf, keeps, refusedAt, refusal}
-use Rattle.written.specs.Rules.{StartsKept, OrderKept, Kept, FirstBroken, none-broken, first-broken}
+use Rattle.written.specs.LentTree.{Tree, leaves, places, start, stemCount}
+use Rattle.written.specs.Check.{every, leafOk, pivotOk, leftOk, rightOk, topOk, Rule, rule₁, rule₂, rule₃, rule₄, rule₅, rule₆, rule₇, numberOf, keeps, refusedAt, refusal}
+use Rattle.written.specs.Rules.{StartsKept, Kept, FirstBroken, none-broken, first-broken}
 use Rattle.written.specs.Laws.Tests.{gave, T-true, not-both, both, three, at-most, equal}
 use Rattle.written.specs.Laws.Check.{every-below, every-node, pivot-ok, order-ok}
 

@@ -16,3 +16,4 @@ pub mod Nearest
 pub mod Check
 pub mod Accepted
 pub mod Points
+pub mod Rooms

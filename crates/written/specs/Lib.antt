@@ -15,6 +15,7 @@ pub mod Table
 pub mod Stands
 pub mod Rows
 pub mod Refusals
+pub mod Examples
 -- Laws
 pub mod Laws
 -- Theorems
@@ -24,3 +25,5 @@ pub mod Checked
 pub mod Right
 pub mod Accounted
 pub mod Limits
+pub mod Calls
+pub mod Answered

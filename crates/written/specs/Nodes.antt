@@ -1,6 +1,6 @@
 -- Document 01, "A lent tree", as theorems: what the definitions of levels and nodes say. Assumes nothing.
 use mathlib.Core.Path.{_≡_}
-use Prim.Native.Nat.{ℕ, suc, _+_, _-_, _*_, _^_, _≤_, _<_, min}
+use Prim.Native.Nat.{ℕ, suc, _+_, _-_, _^_, _≤_, _<_, min}
 use native.Mathlib.Omega.{arith}
 use lib.Pow.{pow-pos, pow-mono}
 use Rattle.written.specs.LentTree.{Tree, leaves, levels, Cursor, span, middle, Node}

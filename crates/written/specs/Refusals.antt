@@ -8,9 +8,9 @@ use lib.IntN.{pos}
 use lib.Ieee.{Float, nan, inf, fin, le, lt}
 use Rattle.written.specs.LentTree.{Tree, levels}
 use Rattle.written.specs.Check.{every, down}
-use Rattle.written.specs.Boxes.{Trees, upTo}
+use Rattle.written.specs.Boxes.{upTo}
 use Rattle.written.specs.Visits.{runs, carries}
-use Rattle.written.specs.Table.{Ask, pairs, unevenPairs, countOf, nearestOf, unevenNearest, blankPair, blankNear, outcome, Row, Holds, totals, pairsRow, nearestRow, refusedPairs, refusedNearest, num, neg}
+use Rattle.written.specs.Table.{Ask, pairs, unevenPairs, nearestOf, unevenNearest, blankPair, blankNear, outcome, Row, Holds, totals, pairsRow, refusedPairs, refusedNearest, num, neg}
 use Rattle.written.specs.Stands.{stand-A}
 
 abbrev good : Tree

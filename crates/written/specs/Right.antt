@@ -1,9 +1,9 @@
 -- Demand 2, "Right": for every two trees that the check accepts, at every radius, NaN included. The only premise is acceptance. Assumes nothing.
-use mathlib.Core.Path.{_≡_, refl, sym, ap, _∙_, subst}
-use mathlib.Core.List.{List, List·Permᴰ}
+use mathlib.Core.Path.{_≡_, sym, ap, _∙_, subst}
+use mathlib.Core.List.{List·Permᴰ}
 use mathlib.Core.Logic.{_⊎_, inl, inr}
-use mathlib.Core.Bool.{Bool, true, false, cond}
-use Prim.Native.Nat.{ℕ, _≤_, _<_}
+use mathlib.Core.Bool.{false}
+use Prim.Native.Nat.{ℕ, _<_}
 use native.Mathlib.Omega.{arith}
 use lib.ListN.{length}
 use lib.Dec.{T}
@@ -11,14 +11,14 @@ use lib.Ieee.{Float, inf, le}
 use Rattle.written.specs.Places.{In}
 use Rattle.written.specs.LentTree.{Tree, places, item, root, the-root, part}
 use Rattle.written.specs.Boxes.{Trees, distance, Edge}
-use Rattle.written.specs.RadiusWalk.{Side, leftSide, rightSide, treeOf, all, allAgainstAll, found, count}
-use Rattle.written.specs.Nearest.{Neighbour, unset, answerAt, offer, nearWalk, noPoints, nearest}
+use Rattle.written.specs.RadiusWalk.{leftSide, rightSide, all, allAgainstAll, found, count}
+use Rattle.written.specs.Nearest.{Neighbour, unset, answerAt, offer, nearWalk, nearest}
 use Rattle.written.specs.Answers.{Accepts}
 use Rattle.written.specs.Laws.Lists.{perm-length}
 use Rattle.written.specs.Laws.LentTree.{Laid, part-in, part-root}
 use Rattle.written.specs.Laws.Boxes.{distance-antisymm}
 use Rattle.written.specs.Laws.Pairs.{finite-at, found-perm, count-all}
-use Rattle.written.specs.Laws.Nearest.{beginning, near-carried}
+use Rattle.written.specs.Laws.Nearest.{near-carried}
 use Rattle.written.specs.Laws.Neighbours.{get-unset, le-inf}
 use Rattle.written.specs.Laws.Accepted.{both-accepted}
 use Rattle.written.specs.Laws.Points.{has-points}

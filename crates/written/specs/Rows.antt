@@ -1,8 +1,8 @@
 -- Small rows worked out by hand from document 01's text, where its ten examples cannot tell a newcomer's definition from the right one:
 -- ragged leaf counts, empty leaves, boxes turned inside out, ties, tiles; and the examples of 01 that are not in the stand table. By computation. Assumes nothing.
-use mathlib.Core.Path.{refl}
-use mathlib.Core.Bool.{true, false}
-use mathlib.Core.List.{List, [], _∷_, _++_}
+use mathlib.Core.Path.{_≡_, refl}
+use mathlib.Core.Bool.{false}
+use mathlib.Core.List.{List, [], _∷_, _++_, map}
 use Prim.Native.Nat.{ℕ}
 use lib.ListN.{replicate}
 use lib.Ieee.{Float, nan, inf, le, lt, ofBits, binary64}
@@ -10,6 +10,7 @@ use Rattle.written.specs.LentTree.{Tree, levels}
 use Rattle.written.specs.Check.{every, down}
 use Rattle.written.specs.Boxes.{Trees, upTo, under}
 use Rattle.written.specs.Visits.{runs, carries}
+use Rattle.written.specs.Spacing.{radiusOf}
 use Rattle.written.specs.Table.{pairs, countOf, nearestOf, blankPair, blankNear, outcome, Row, Holds, totals, pair, near, pairsRow, countRow, nearestRow, num, neg}
 use Rattle.written.specs.Stands.{stand-A, stand-B}
 
@@ -125,3 +126,8 @@ walks =
 pub walk-rows : Holds walks
 unfolding outcome runs carries every down levels le lt num neg ofBits
 walk-rows = refl
+
+-- the spacing helper: -2, 0.1, 1e200 and the smallest length, NaN
+pub spacing-rows : map radiusOf (neg 2 ∷ tenth ∷ high200 ∷ ofBits binary64 1 ∷ nan ∷ []) ≡ num 4 ∷ ofBits binary64 0x3f847ae147ae147c ∷ inf false ∷ num 0 ∷ nan ∷ []
+unfolding radiusOf num neg ofBits
+spacing-rows = refl

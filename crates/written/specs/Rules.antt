@@ -6,7 +6,7 @@ use mathlib.Core.Bool.{true, false}
 use Prim.Native.Nat.{ℕ, suc, _-_, _*_, _≤_, _<_}
 use lib.ListN.{length, getD}
 use lib.Dec.{T}
-use lib.Ieee.{Float, nan, inf, lt}
+use lib.Ieee.{nan, inf, lt}
 use lib.Ieee.Scale.{finite}
 use Rattle.written.specs.Places.{In}
 use Rattle.written.specs.LentTree.{Tree, leaves, places, start, coord, stemCount, Cursor, span, near, far, Node, axis, pivot, part}

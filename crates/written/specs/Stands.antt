@@ -1,12 +1,11 @@
 -- Document 01, "Stand examples": A1, A3, A4, A6, A8, A9, B1, B2, B3 and C1 as one table over the definitions, by computation. Assumes nothing.
 use mathlib.Core.Path.{_≡_, refl}
-use mathlib.Core.Bool.{true, false}
+use mathlib.Core.Bool.{false}
 use mathlib.Core.List.{List, [], _∷_}
-use Prim.Native.Nat.{ℕ}
-use lib.Ieee.{Float, nan, inf, le, lt}
-use Rattle.written.specs.LentTree.{Tree, levels}
+use lib.Ieee.{nan, inf, le, lt}
+use Rattle.written.specs.LentTree.{levels}
 use Rattle.written.specs.Check.{every, down}
-use Rattle.written.specs.Boxes.{Trees, Edge, upTo, under}
+use Rattle.written.specs.Boxes.{Trees, upTo, under}
 use Rattle.written.specs.Visits.{runs, carries}
 use Rattle.written.specs.Totals.{walkDeepest, nearDeepest}
 use Rattle.written.specs.Table.{pairs, countOf, nearestOf, blankPair, blankNear, outcome, Row, Holds, totals, pair, near, pairsRow, countRow, nearestRow, num, neg}

@@ -8,7 +8,7 @@ use lib.Ieee.{Float, nan, ofInt, binary64}
 use Rattle.written.specs.Boxes.{Trees, Edge}
 use Rattle.written.specs.RadiusWalk.{Found, count}
 use Rattle.written.specs.Nearest.{Neighbour}
-use Rattle.written.specs.Totals.{Totals, none, walkTotals}
+use Rattle.written.specs.Totals.{Totals, walkTotals}
 use Rattle.written.specs.Check.{refusal}
 use Rattle.written.specs.Answers.{Answer, answered, refused, PairRooms, pairsCall, pairsIn, countsCall, NearRooms, nearestCall, nearestIn}
 

@@ -1,20 +1,18 @@
 -- What the walks use of a tree that the check accepts follows from its rules. Assumes nothing.
-use mathlib.Core.Path.{_≡_, refl, sym, ap, subst}
+use mathlib.Core.Path.{_≡_, refl, ap}
 use mathlib.Core.Logic.{_≢_}
-use mathlib.Core.Bool.{Bool, true, false}
 use Prim.Native.Nat.{ℕ, zero, suc, _+_, _*_, _≤_, _<_}
 use native.Mathlib.Nat.{mod-lt}
 use native.Mathlib.Decide.{ℕ-discrete, decLt}
 use native.Mathlib.Omega.{arith}
 use lib.Arith.{digits-lt}
-use lib.ListN.{length, getD}
 use lib.Dec.{T, not-T}
-use lib.Ieee.{Float, nan, inf, fin, lt, le, isNan}
+use lib.Ieee.{Float, nan, inf, fin, lt, isNan}
 use lib.Ieee.Scale.{finite}
 use Rattle.rounding.specs.Order.{known, finite-known, not-lt→le}
 use Rattle.written.specs.Places.{In}
-use Rattle.written.specs.LentTree.{Tree, leaves, places, start, coord, Cursor, span, near, far, Node, near-of, far-of, axis, pivot, part}
-use Rattle.written.specs.Check.{Rule, rule₁, rule₂, rule₃, rule₄, rule₅, rule₆, rule₇, refusal}
+use Rattle.written.specs.LentTree.{Tree, leaves, places, start, coord, Cursor, span, far, Node, axis, pivot, part}
+use Rattle.written.specs.Check.{Rule, rule₁, rule₃, rule₄, rule₅, rule₆, rule₇, refusal}
 use Rattle.written.specs.Boxes.{Trees}
 use Rattle.written.specs.RadiusWalk.{Side, leftSide, rightSide, treeOf}
 use Rattle.written.specs.Answers.{Accepts}

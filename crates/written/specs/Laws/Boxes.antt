@@ -1,5 +1,5 @@
 -- Points in boxes, and the facts on rounded numbers that the walks rest on: lower ≤ distance ≤ upper, what is beyond a radius fails, what is below a bound that passes does. Assumes nothing.
-use mathlib.Core.Path.{_≡_, refl, sym, _∙_}
+use mathlib.Core.Path.{_≡_, _∙_}
 use mathlib.Core.Bool.{Bool, true, false, cond}
 use mathlib.Core.Logic.{_≢_}
 use Prim.Native.Nat.{ℕ, _+_, _<_}
@@ -12,7 +12,6 @@ use lib.Ieee.{Float, nan, le, lt, binary64}
 use Rattle.rounding.specs.Order.{known, le-trans, le-lt-trans, lt-le-trans, asym}
 use Rattle.rounding.specs.Signs.{plain-known}
 use Rattle.rounding.specs.Exact.{plain-antisymm}
-use Rattle.rounding.specs.Distance.{distance as distanceOfRows}
 use Rattle.rounding.specs.Boxes.{Finite, distance-plain, distance-fits, lower-le, le-upper}
 use Rattle.written.specs.LentTree.{Tree, coord}
 use Rattle.written.specs.Boxes.{Trees, point, distance, Boxes, lowered, raised, sides, lower, upper, Edge, upTo, under, passes, beyond}

@@ -4,7 +4,7 @@ use mathlib.Core.Logic.{_⊎_, inl, inr}
 use Prim.Native.Nat.{ℕ, zero, suc, _≤_}
 use native.Mathlib.Omega.{arith}
 use Rattle.written.specs.Places.{Part, In}
-use Rattle.written.specs.Visits.{Fate, measured, ruled, whole, Step, ends, goes, forks, Run, Seen, seen, after, carries, carry, Ends}
+use Rattle.written.specs.Visits.{Fate, measured, ruled, whole, Step, ends, goes, forks, Seen, seen, after, carries, carry, Ends}
 use Rattle.written.specs.Laws.Visits.{at, height}
 use Rattle.written.specs.Laws.Covered.{Cut, cut-left, cut-right, cut-in, cut-first-in, cut-then-in, Tiled}
 use Rattle.written.specs.Laws.Walks.{Allows, Onward}

@@ -1,8 +1,8 @@
 -- What the check's tests mean: a test at every place of a stretch, a test at every node. Assumes nothing.
-use mathlib.Core.Path.{_≡_, refl, sym, ap, subst}
-use mathlib.Core.Logic.{_⊎_, inl, inr, _↔_, _≢_}
+use mathlib.Core.Path.{_≡_, refl, sym, ap}
+use mathlib.Core.Logic.{inl, inr, _↔_, _≢_}
 use mathlib.Core.Bool.{Bool, true, false, not, _&&_, _||_, true≢false}
-use Prim.Native.Nat.{ℕ, zero, suc, _+_, _-_, _*_, _≤_, _<_}
+use Prim.Native.Nat.{ℕ, zero, suc, _+_, _-_, _≤_, _<_}
 use native.Mathlib.Decide.{ℕ-discrete}
 use native.Mathlib.Omega.{arith}
 use lib.Dec.{T, eqb}
@@ -11,7 +11,7 @@ use Rattle.written.specs.Places.{Part, In}
 use Rattle.written.specs.LentTree.{Tree, coord, Cursor, root, span, near, far, Node, the-root, near-of, far-of, axis, pivot, part}
 use Rattle.written.specs.Check.{every, everyIn, down, noPivot, isTop, pivotOk, leftOk, rightOk, topOk}
 use Rattle.written.specs.Rules.{OrderKept}
-use Rattle.written.specs.Laws.Tests.{gave, T-true, denies, not-both, not-true, both, three, either, equal, not-zero}
+use Rattle.written.specs.Laws.Tests.{gave, not-both, not-true, both, three, either, equal, not-zero}
 
 -- ---- every place
 

@@ -1,5 +1,5 @@
 -- Node pairs that hold pairs of places. Where each visit that goes on goes on with all its pairs of places, every pair lies under exactly one visit that ends. Assumes nothing.
-use mathlib.Core.Path.{_≡_, refl, sym, _∙_}
+use mathlib.Core.Path.{_≡_, refl, _∙_}
 use mathlib.Core.List.{List, [], _++_, List·Permᴰ, List·Permᴰ·trans, Permᴰ·refl}
 use mathlib.Core.Logic.{_⊎_, inl, inr}
 use Prim.Native.Nat.{ℕ, zero, suc, _+_, _*_, _<_}

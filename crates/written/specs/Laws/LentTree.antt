@@ -7,8 +7,8 @@ use native.Mathlib.Decide.{decLt}
 use native.Mathlib.Omega.{arith}
 use lib.Pow.{pow-mono}
 use lib.Dec.{T, leb, leb→le, nleb→lt}
-use Rattle.written.specs.Places.{Part, In}
-use Rattle.written.specs.LentTree.{Tree, leaves, places, start, firstFrom, levels, Cursor, root, span, middle, near, far, Node, the-root, near-of, far-of, part}
+use Rattle.written.specs.Places.{In}
+use Rattle.written.specs.LentTree.{Tree, leaves, places, start, firstFrom, levels, Cursor, root, middle, near, far, Node, the-root, near-of, far-of, part}
 use Rattle.written.specs.RadiusWalk.{all}
 use Rattle.written.specs.Laws.Places.{Halves}
 

@@ -1,4 +1,5 @@
 -- Rearrangements of lists. A rearrangement is the library's `List·Permᴰ`: swaps of neighbours lead from one list to the other. Assumes nothing.
+use Rattle.written.specs.Examples  -- no law is checked before the examples
 use mathlib.Core.Path.{_≡_, refl, sym, ap, _∙_, subst}
 use mathlib.Core.List.{List, [], _∷_, _++_, append-nil, append-assoc, List·Permᴰ, List·Permᴰ·nil, List·Permᴰ·cons, List·Permᴰ·swap, List·Permᴰ·trans, Permᴰ·refl, Permᴰ·symm, Permᴰ·append-left, Permᴰ·append-right, Permᴰ·middle}
 use lib.ListN.{length}

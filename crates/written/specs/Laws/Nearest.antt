@@ -1,9 +1,9 @@
 -- The nearest walk over two accepted trees: each answer's distance is the least, and what is ruled out could not have lowered it. Assumes nothing.
-use mathlib.Core.Path.{_≡_, refl, sym, ap, _∙_}
+use mathlib.Core.Path.{_≡_, refl, _∙_}
 use mathlib.Core.List.{List}
-use mathlib.Core.Bool.{Bool, true, false, _&&_, _||_, cond, true≢false}
+use mathlib.Core.Bool.{Bool, true, false, _&&_, cond}
 use mathlib.Core.Logic.{_⊎_, inl, inr}
-use Prim.Native.Nat.{ℕ, zero, suc, _+_, _≤_, _<_}
+use Prim.Native.Nat.{ℕ, zero, _≤_, _<_}
 use native.Mathlib.Nat.{zero-add}
 use native.Mathlib.Decide.{decLt}
 use native.Mathlib.Omega.{arith}
@@ -12,16 +12,15 @@ use lib.Dec.{T}
 use lib.Ieee.{Float, inf, le, isNan}
 use Rattle.rounding.specs.Order.{known, le-refl, le-trans}
 use Rattle.rounding.specs.Distance.{zero₊}
-use Rattle.written.specs.Places.{Part, In, inside}
-use Rattle.written.specs.LentTree.{places, root, isLeaf}
+use Rattle.written.specs.Places.{In, inside}
+use Rattle.written.specs.LentTree.{places, isLeaf}
 use Rattle.written.specs.Boxes.{Trees, distance, lower, under, beyond}
 use Rattle.written.specs.Visits.{Fate, whole, is, Step, Seen, seen, Ends}
 use Rattle.written.specs.RadiusWalk.{Side, leftSide, rightSide, NodePair, treeOf, start, stemLevels, noLeaf, picked, split, descend, visit, leftPart, rightPart, all}
-use Rattle.written.specs.Nearest.{Neighbour, unset, answerAt, improve, atEach, largest, offer, update, farthest, nearRuledOut, nearStep, nearWalk}
+use Rattle.written.specs.Nearest.{Neighbour, unset, answerAt, improve, atEach, offer, update, farthest, nearRuledOut, nearStep, nearWalk}
 use Rattle.written.specs.Laws.Tests.{gave, either, not-both}
 use Rattle.written.specs.Laws.Places.{inside-true}
 use Rattle.written.specs.Laws.Visits.{at, height}
-use Rattle.written.specs.Laws.Covered.{Tiled}
 use Rattle.written.specs.Laws.Walks.{Allows}
 use Rattle.written.specs.Laws.LentTree.{part-root}
 use Rattle.written.specs.Laws.Boxes.{distance-known}

@@ -1,4 +1,5 @@
 -- Answers of nearest, improved by what right places offer; the largest distance held; a change at each place of a list. Assumes nothing.
+use Rattle.written.specs.Examples  -- no law is checked before the examples
 use mathlib.Core.Path.{_≡_, refl, ap, _∙_}
 use mathlib.Core.List.{List, [], _∷_}
 use mathlib.Core.Bool.{Bool, true, false, cond}

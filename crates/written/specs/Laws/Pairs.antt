@@ -1,23 +1,23 @@
 -- The radius walk over two accepted trees, for pairs and for counts: what it rules out, takes whole, finds and counts. Assumes nothing.
 use mathlib.Core.Path.{_≡_, refl, sym, ap, ap₂, _∙_, subst₂}
-use mathlib.Core.List.{List, [], _∷_, List·Permᴰ}
-use mathlib.Core.Bool.{Bool, true, false, _&&_, _||_, true≢false}
+use mathlib.Core.List.{List, [], List·Permᴰ}
+use mathlib.Core.Bool.{Bool, true, false, _&&_}
 use mathlib.Core.Logic.{inl, inr}
-use Prim.Native.Nat.{ℕ, _+_, _*_, _≤_, _<_}
+use Prim.Native.Nat.{ℕ, _≤_, _<_}
 use native.Mathlib.Omega.{arith}
 use lib.ListN.{length}
 use lib.Dec.{T}
 use lib.Ieee.{Float, le}
 use Rattle.rounding.specs.Boxes.{Finite}
-use Rattle.written.specs.Places.{Part, In, ind, cross}
+use Rattle.written.specs.Places.{Part, In, cross}
 use Rattle.written.specs.LentTree.{places, isLeaf, part}
 use Rattle.written.specs.Boxes.{Trees, point, distance, lower, upper, Edge, passes, beyond}
 use Rattle.written.specs.Visits.{Fate, measured, ruled, whole, is, Step, gather, Ends}
-use Rattle.written.specs.RadiusWalk.{Side, leftSide, rightSide, NodePair, treeOf, cursorOf, start, stemLevels, noLeaf, picked, split, descend, visit, Found, leftPart, rightPart, area, all, keepIf, kept, counted, pairOf, passing, keep, ruledOut, takenWhole, step, walk, leafPair, found, count}
-use Rattle.written.specs.Laws.Tests.{gave, either, both}
+use Rattle.written.specs.RadiusWalk.{Side, leftSide, rightSide, NodePair, treeOf, cursorOf, start, stemLevels, noLeaf, picked, split, descend, visit, Found, leftPart, rightPart, area, all, keepIf, kept, counted, keep, ruledOut, takenWhole, step, walk, leafPair, found, count}
+use Rattle.written.specs.Laws.Tests.{either, both}
 use Rattle.written.specs.Laws.Lists.{perm-of-eq, perm-length}
 use Rattle.written.specs.Laws.Visits.{at, height}
-use Rattle.written.specs.Laws.Covered.{Tiled, Fair, ends-at, finds, counts, ruled-none, whole-all, totals-area, totals-once}
+use Rattle.written.specs.Laws.Covered.{Tiled, Fair, finds, counts, ruled-none, whole-all}
 use Rattle.written.specs.Laws.Walks.{Allows, at-runs, height-runs, run-fates, Law, law-onward, run-tiled, run-sound}
 use Rattle.written.specs.Laws.Tiles.{by-tiles}
 use Rattle.written.specs.Laws.LentTree.{part-in, part-root}

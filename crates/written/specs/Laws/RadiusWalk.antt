@@ -1,26 +1,26 @@
 -- One visit of a walk over two accepted trees, and its law: a split shares out the pairs of places, and points stay in their boxes. Assumes nothing.
-use mathlib.Core.Path.{_≡_, refl, sym, ap, ap₂, _∙_, subst, subst₂}
+use mathlib.Core.Path.{_≡_, refl, sym, ap, subst}
 use mathlib.Core.Bool.{Bool, true, false, not, _&&_, _||_, cond, true≢false}
 use mathlib.Core.Logic.{_≢_, inl, inr}
-use Prim.Native.Nat.{ℕ, zero, suc, _+_, _-_, _*_, _≤_, _<_}
+use Prim.Native.Nat.{ℕ, zero, suc, _+_, _-_, _≤_, _<_}
 use native.Mathlib.Nat.{mod-lt}
 use native.Mathlib.Omega.{arith}
-use lib.ListN.{length, getD-replicate}
+use lib.ListN.{getD-replicate}
 use lib.Dec.{T, ltb, eqb, eqb→eq}
 use lib.Ieee.{nan, inf, le}
 use lib.Ieee.Scale.{finite}
 use Rattle.rounding.specs.Order.{finite-known, bottom-le, le-top}
-use Rattle.written.specs.Places.{Part, In}
+use Rattle.written.specs.Places.{In}
 use Rattle.written.specs.LentTree.{Tree, places, start, coord, Cursor, root, span, isLeaf, near, far, Node, the-root, near-of, far-of, axis, pivot, part}
 use Rattle.written.specs.Check.{isTop}
 use Rattle.written.specs.Boxes.{Trees, Boxes, everywhere, lowered, raised}
-use Rattle.written.specs.Visits.{Fate, whole, is, Step, ends, goes, forks}
-use Rattle.written.specs.RadiusWalk.{Side, leftSide, rightSide, NodePair, treeOf, cursorOf, corner, moved, start as startPair, stemLevels, noLeaf, splitsRight, picked, cutAt, cutBy, nearHalf, farHalf, halves, split, descend, visit, leftPart, rightPart, all}
-use Rattle.written.specs.Laws.Tests.{either, neither, not-zero}
+use Rattle.written.specs.Visits.{whole, is}
+use Rattle.written.specs.RadiusWalk.{Side, leftSide, rightSide, NodePair, treeOf, cursorOf, corner, moved, start as startPair, stemLevels, noLeaf, picked, cutAt, cutBy, nearHalf, farHalf, halves, split, descend, visit, leftPart, rightPart}
+use Rattle.written.specs.Laws.Tests.{either, not-zero}
 use Rattle.written.specs.Laws.Places.{Halves, in-first, in-then, halves-all}
 use Rattle.written.specs.Laws.Covered.{Cut, cut-left, cut-right}
 use Rattle.written.specs.Laws.Walks.{Allows, Onward}
-use Rattle.written.specs.Laws.LentTree.{Laid, On, on-node, part-halves, part-in, part-root}
+use Rattle.written.specs.Laws.LentTree.{Laid, On, on-node, part-halves, part-in}
 use Rattle.written.specs.Laws.Boxes.{Within, Sized, sized-lowered, sized-raised, within-lowered, within-raised, apart-lowered, apart-raised}
 
 -- ---- accepted trees
@@ -60,9 +60,6 @@ module _ (K : ℕ) (t : Tree) (ok : Accepted K t) (i : ℕ) (i≤4 : i ≤ 4) (c
   -- a pivot of +inf: the near half has all the points
   boxed-all : Boxed K t i (near c) b
   boxed-all p x = w p (in-first here-halves x)
-
-  all-near : isTop (pivot t c) ≡ true → part t (near c) ≡ part t c
-  all-near q = halves-all here-halves (ok .parted c n h .shut q)
 
 -- ---- a node pair with d levels left
 

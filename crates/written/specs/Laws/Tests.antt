@@ -1,10 +1,11 @@
 -- What a test that passed or failed says. Assumes nothing.
-use mathlib.Core.Path.{_≡_, refl, sym, ap, _∙_, subst}
+use Rattle.written.specs.Examples  -- no law is checked before the examples
+use mathlib.Core.Path.{_≡_, refl, sym, _∙_, subst}
 use mathlib.Core.Bool.{Bool, true, false, not, _&&_, _||_, true≢false}
 use mathlib.Core.Logic.{_⊎_, inl, inr, _↔_}
 use Prim.Native.Nat.{ℕ, zero, suc, _≤_, _<_}
 use native.Mathlib.Omega.{arith}
-use lib.Dec.{T, leb, ltb, eqb, leb→le, le→leb, nleb→lt, eqb→eq, eqb-refl}
+use lib.Dec.{T, leb, eqb, leb→le, le→leb, eqb→eq, eqb-refl}
 
 -- ---- truth
 
@@ -18,6 +19,10 @@ T-true false h = absurd h
 pub denies : (t : Bool) → (T t → ⊥) → t ≡ false
 denies true h = absurd (h tt)
 denies false h = refl
+
+pub fails : (t : Bool) → (t ≡ true → ⊥) → t ≡ false
+fails true h = absurd (h refl)
+fails false h = refl
 
 pub not-both : {t : Bool} → t ≡ true → t ≡ false → ⊥
 not-both e f = true≢false (sym e ∙ f)

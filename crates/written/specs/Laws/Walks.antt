@@ -1,10 +1,10 @@
 -- A walk that is given by what one visit does: from the law of one visit follow the laws of the walk. Assumes nothing.
 use mathlib.Core.Path.{_≡_, refl}
 use mathlib.Core.List.{List}
-use Prim.Native.Nat.{ℕ, zero, suc, _+_, _≤_}
+use Prim.Native.Nat.{ℕ, zero, suc, _≤_}
 use native.Mathlib.Omega.{arith}
 use Rattle.written.specs.Places.{Part}
-use Rattle.written.specs.Visits.{Fate, measured, Step, ends, goes, forks, Run, runs, run, Ends}
+use Rattle.written.specs.Visits.{Fate, measured, Step, ends, goes, forks, runs, run, Ends}
 use Rattle.written.specs.Laws.Visits.{at, height}
 use Rattle.written.specs.Laws.Covered.{Cut, Tiled, Fair}
 
