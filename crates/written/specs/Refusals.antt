@@ -32,10 +32,15 @@ pivoted v = stemmed (num 0 ∷ v ∷ [])
 abbrev moved : Float → Float → Tree
 moved x v = record { starts = good .starts; stems = num 0 ∷ v ∷ []; items = good .items; coords = num 1 ∷ x ∷ num 4 ∷ num 7 ∷ num 1 ∷ num 2 ∷ num 6 ∷ num 1 ∷ [] }
 
--- a point in each half, on one axis; and n points in one leaf
+-- a point in each half, on one axis
 abbrev twoLeaves : Float → Float → Float → Tree
 twoLeaves x y v = record { starts = 0 ∷ 1 ∷ 2 ∷ []; stems = nan ∷ v ∷ []; items = 1 ∷ 2 ∷ []; coords = x ∷ y ∷ [] }
 
+-- a point in each of three leaves: node 3 is over the last
+abbrev threeLeaves : Float → Tree
+threeLeaves v = record { starts = 0 ∷ 1 ∷ 2 ∷ 3 ∷ []; stems = nan ∷ num 2 ∷ num 1 ∷ v ∷ []; items = 1 ∷ 2 ∷ 3 ∷ []; coords = num 0 ∷ num 1 ∷ num 2 ∷ [] }
+
+-- n points in one leaf
 abbrev crowd : ℕ → Tree
 crowd n = record { starts = 0 ∷ n ∷ []; stems = []; items = replicate n 1; coords = replicate n (num 0) }
 
@@ -81,6 +86,9 @@ refusals =
     -- 6: a pivot is NaN or -inf
     ∷ no (onLeft (pivoted nan)) 6 0
     ∷ no (onRight (pivoted (inf true))) 6 1
+    -- and a node over one leaf with a level left is such a node
+    ∷ no (onAxis (threeLeaves nan)) 6 0
+    ∷ pairsRow (onAxis (threeLeaves (num 3))) 0 0 (totals 1 0 6 0) (blankPair ∷ [])
     -- 7: a point of the left half above the pivot, one of the right half below it, a pivot of +inf with a point in the right half
     ∷ no (onLeft (moved (num 5) (num 4))) 7 0
     ∷ no (onAxis (twoLeaves (num 1) (num 2) (num 3))) 7 0
