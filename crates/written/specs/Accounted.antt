@@ -11,7 +11,8 @@ use Rattle.written.specs.Places.{Part, In, ind}
 use Rattle.written.specs.LentTree.{places}
 use Rattle.written.specs.Boxes.{Trees, distance, Edge}
 use Rattle.written.specs.Visits.{Fate, measured, ruled, whole, Seen, Ends}
-use Rattle.written.specs.RadiusWalk.{NodePair, leftPart, rightPart, area, all, pairOf, passing, keep, walk}
+use Rattle.written.specs.NodePairs.{NodePair, leftPart, rightPart, area, allPlaces}
+use Rattle.written.specs.RadiusWalk.{pairOf, passing, keep, walk}
 use Rattle.written.specs.Nearest.{Neighbour, answerAt, offer, nearWalk, noPoints, nearest}
 use Rattle.written.specs.Totals.{none, totalsOf, walkTotals, nearTotals, walkTimes, nearTimes}
 use Rattle.written.specs.Answers.{Accepts}
@@ -64,7 +65,7 @@ module _ (j : Trees) (ok : Accepts j) where
   unfolding nearWalk
   near-tiled = near-carried j (both-accepted j ok) .tiled
 
-  near-times : (p q : ℕ) → nearTimes j measured p q + nearTimes j ruled p q + nearTimes j whole p q ≡ ind p (all (j .left)) * ind q (all (j .right))
+  near-times : (p q : ℕ) → nearTimes j measured p q + nearTimes j ruled p q + nearTimes j whole p q ≡ ind p (allPlaces (j .left)) * ind q (allPlaces (j .right))
   near-times p q =
       totals-once (λ v. leftPart j (v .pair)) (λ v. rightPart j (v .pair)) p q (nearWalk j .0) near-tiled
       ∙ ap₂ (λ (l r : Part). ind p l * ind q r) (near-left j (both-accepted j ok)) (near-right j (both-accepted j ok))
@@ -102,5 +103,5 @@ module _ (j : Trees) (ok : Accepts j) where
   -- so no pair ruled out would have lowered a final distance
   pub ruled-out-would-not-lower : (p q : ℕ) → 0 < nearTimes j ruled p q → T (le (answerAt (nearest j) p .distance) (distance j p q))
   ruled-out-would-not-lower p q h =
-      let x = under-in (leftPart j) (rightPart j) p q (all (j .left)) (all (j .right)) (omega (arith, near-times p q)) in
+      let x = under-in (leftPart j) (rightPart j) p q (allPlaces (j .left)) (allPlaces (j .right)) (omega (arith, near-times p q)) in
       nearest-least j ok p (omega (arith, x .0)) (omega (arith, x .1)) q (omega (arith, x .1))

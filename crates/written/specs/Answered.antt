@@ -19,7 +19,7 @@ use Rattle.written.specs.Rules.{FirstBroken}
 use Rattle.written.specs.Calls.{TreeRefused, left-broken, right-broken, PairRoomsAgree, NearRoomsAgree, PairsAnswer, pairs-tree-refused, pairs-rooms-differ, pairs-all-fit, pairs-some-fit, CountsAnswer, counts-tree-refused, counts-told, NearestAnswer, nearest-tree-refused, nearest-rooms-differ, nearest-room-short, nearest-no-points, nearest-written}
 use Rattle.written.specs.Checked.{refusal-is-first, first-is-one}
 use Rattle.written.specs.Right.{nearest-for-each}
-use Rattle.written.specs.Laws.Tests.{fails, not-both, both, at-most, over, equal}
+use Rattle.written.specs.Laws.Tests.{fails, not-both, both, at-most, exceeds, equal}
 use Rattle.written.specs.Laws.Rooms.{stored-all, stored-first}
 use Rattle.written.specs.Laws.Points.{both-hold}
 
@@ -89,7 +89,7 @@ module _ (j : Trees) (edge : Edge) (radius : Float) (b : PairRooms) where
   unfolding pairsIn
   some-in a h =
       rw
-      (agree .1 a, over l (length (b .distances)) h, stored-first (λ x. x .left) (found j edge radius) (b .lefts) (omega arith), stored-first (λ x. x .right) (found j edge radius) (b .rights) (omega arith), stored-first (λ x. x .distance) (found j edge radius) (b .distances) (omega arith))
+      (agree .1 a, exceeds l (length (b .distances)) h, stored-first (λ x. x .left) (found j edge radius) (b .lefts) (omega arith), stored-first (λ x. x .right) (found j edge radius) (b .rights) (omega arith), stored-first (λ x. x .distance) (found j edge radius) (b .distances) (omega arith))
       refl
 
   abbrev untouched : ℕ → ℕ → Answer × PairRooms
@@ -163,7 +163,7 @@ module _ (j : Trees) (b : NearRooms) where
   near-differ d = rw (fails (nearRoomsAgree b) (λ e. d (near-agree .0 e))) (differ-is (nearRoomOk j b))
 
   near-short : NearRoomsAgree b → noPoints j ≡ false → length (b .distances) < n → rest ≡ (refused 9 0, b)
-  near-short a e h = rw (near-agree .1 a, e, over n (length (b .distances)) h) short-is
+  near-short a e h = rw (near-agree .1 a, e, exceeds n (length (b .distances)) h) short-is
 
   none-answered : noPoints j ≡ true → nearest j ≡ []
   unfolding nearest

@@ -4,6 +4,7 @@ pub mod LentTree
 pub mod Check
 pub mod Boxes
 pub mod Visits
+pub mod NodePairs
 pub mod Tiles
 pub mod RadiusWalk
 pub mod Nearest

@@ -12,7 +12,8 @@ use Rattle.written.specs.LentTree.{places, leaves}
 use Rattle.written.specs.Check.{rule₂}
 use Rattle.written.specs.Boxes.{Trees, Edge}
 use Rattle.written.specs.Visits.{whole, deepestFar}
-use Rattle.written.specs.RadiusWalk.{stemLevels, area, keepIf, pairOf, passing, keep, allAgainstAll, walk, found, count}
+use Rattle.written.specs.NodePairs.{stemLevels, area}
+use Rattle.written.specs.RadiusWalk.{keepIf, pairOf, passing, keep, allAgainstAll, walk, found, count}
 use Rattle.written.specs.Nearest.{nearWalk, noPoints}
 use Rattle.written.specs.Totals.{none, totalsOf, walkTotals, nearTotals, walkDeepest, nearDeepest}
 use Rattle.written.specs.Answers.{Accepts}
@@ -28,15 +29,15 @@ use Rattle.written.specs.Laws.Nearest.{height-near, near-not-whole}
 -- ---- visits and waiting, whatever the trees hold
 
 -- at most 2^(a+b+1) - 1 node pairs are visited
-pub visits-bounded : (j : Trees) (edge : Edge) (radius : Float) (counting : Bool) → walkTotals j edge radius counting .visited ≤ 2 ^ (stemLevels j + 1) - 1
+pub visits-bounded : (j : Trees) (edge : Edge) (radius : Float) (counting : Bool) → walkTotals j edge radius counting .visits ≤ 2 ^ (stemLevels j + 1) - 1
 unfolding walkTotals
 visits-bounded j edge radius counting = visits-bound (stemLevels j) (walk j edge radius counting) (height-walk j edge radius counting)
 
-pub near-visits-bounded : (j : Trees) → nearTotals j .visited ≤ 2 ^ (stemLevels j + 1) - 1
+pub near-visits-bounded : (j : Trees) → nearTotals j .visits ≤ 2 ^ (stemLevels j + 1) - 1
 unfolding nearTotals
 near-visits-bounded j = go (noPoints j)
   where
-    go : (b : Bool) → cond b none (totalsOf (λ v. area j (v .pair)) (nearWalk j .0)) .visited ≤ 2 ^ (stemLevels j + 1) - 1
+    go : (b : Bool) → cond b none (totalsOf (λ v. area j (v .pair)) (nearWalk j .0)) .visits ≤ 2 ^ (stemLevels j + 1) - 1
     go true = omega arith
     go false = visits-bound (stemLevels j) (nearWalk j .0) (height-near j)
 

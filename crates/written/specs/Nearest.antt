@@ -10,7 +10,7 @@ use Rattle.written.specs.Places.{inside}
 use Rattle.written.specs.LentTree.{places, item}
 use Rattle.written.specs.Boxes.{Trees, distance, lower, under, beyond}
 use Rattle.written.specs.Visits.{Step, Run, Seen, carry}
-use Rattle.written.specs.RadiusWalk.{NodePair, start, stemLevels, noLeaf, split, visit, leftPart, rightPart}
+use Rattle.written.specs.NodePairs.{NodePair, rootPair, stemLevels, noLeaf, split, visit, leftPart, rightPart}
 
 -- an answer: a right item and its distance
 pub record Neighbour : Type 0 where
@@ -72,7 +72,7 @@ module _ (j : Trees) where
   -- the visits, the far half before the near one, and the answers at their end
   unfoldable pub nearWalk : Run (Seen (List Neighbour) NodePair) × List Neighbour
   unfolding nearStep update
-  nearWalk = carry nearStep update (stemLevels j) (replicate (places (j .left)) unset) (start j)
+  nearWalk = carry nearStep update (stemLevels j) (replicate (places (j .left)) unset) (rootPair j)
 
   -- a tree holds no points
   abbrev pub noPoints : Bool

@@ -11,7 +11,8 @@ use lib.Ieee.{Float, inf, le}
 use Rattle.written.specs.Places.{In}
 use Rattle.written.specs.LentTree.{Tree, places, item, root, the-root, part}
 use Rattle.written.specs.Boxes.{Trees, distance, Edge}
-use Rattle.written.specs.RadiusWalk.{leftSide, rightSide, all, allAgainstAll, found, count}
+use Rattle.written.specs.NodePairs.{leftSide, rightSide}
+use Rattle.written.specs.RadiusWalk.{allAgainstAll, found, count}
 use Rattle.written.specs.Nearest.{Neighbour, unset, answerAt, offer, nearWalk, nearest}
 use Rattle.written.specs.Answers.{Accepts}
 use Rattle.written.specs.Laws.Lists.{perm-length}

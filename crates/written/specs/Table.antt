@@ -79,8 +79,8 @@ abbrev pub Holds : List Row → Type 0
 Holds table = map (λ r. outcome (r .ask)) table ≡ map (λ r. r .says) table
 
 -- a row in few words: found pairs, a count, nearest answers, or a refusal
-abbrev pub totals : (visited measured ruledOut whole : ℕ) → Totals
-totals visited measured ruledOut whole = record { visited = visited; measured = measured; ruledOut = ruledOut; whole = whole }
+abbrev pub totals : (visits measured ruledOut whole : ℕ) → Totals
+totals visits measured ruledOut whole = record { visits = visits; measured = measured; ruledOut = ruledOut; whole = whole }
 
 abbrev pub pair : ℕ → ℕ → Float → Found
 pair left right distance = record { left = left; right = right; distance = distance }

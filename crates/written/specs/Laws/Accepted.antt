@@ -14,7 +14,7 @@ use Rattle.written.specs.Places.{In}
 use Rattle.written.specs.LentTree.{Tree, leaves, places, start, coord, Cursor, span, far, Node, axis, pivot, part}
 use Rattle.written.specs.Check.{Rule, rule₁, rule₃, rule₄, rule₅, rule₆, rule₇, refusal}
 use Rattle.written.specs.Boxes.{Trees}
-use Rattle.written.specs.RadiusWalk.{Side, leftSide, rightSide, treeOf}
+use Rattle.written.specs.NodePairs.{Side, leftSide, rightSide, treeOf}
 use Rattle.written.specs.Answers.{Accepts}
 use Rattle.written.specs.Rules.{StartsKept, OrderKept, Kept}
 use Rattle.written.specs.Checked.{accepted-means}

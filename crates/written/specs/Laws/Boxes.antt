@@ -10,9 +10,8 @@ use lib.Seq.{getD-set-same, getD-set-other}
 use lib.Dec.{T}
 use lib.Ieee.{Float, nan, le, lt, binary64}
 use Rattle.rounding.specs.Order.{known, le-trans, le-lt-trans, lt-le-trans, asym}
-use Rattle.rounding.specs.Signs.{plain-known}
 use Rattle.rounding.specs.Exact.{plain-antisymm}
-use Rattle.rounding.specs.Boxes.{Finite, distance-plain, distance-fits, lower-le, le-upper}
+use Rattle.rounding.specs.Boxes.{Finite, distance-plain, distance-known as known-of-rows, distance-fits, lower-le, le-upper}
 use Rattle.written.specs.LentTree.{Tree, coord}
 use Rattle.written.specs.Boxes.{Trees, point, distance, Boxes, lowered, raised, sides, lower, upper, Edge, upTo, under, passes, beyond}
 use Rattle.written.specs.Laws.Tests.{gave, T-true, denies}
@@ -77,7 +76,7 @@ module _ (j : Trees) (p q : ℕ) (x : Finite (point (j .left) p) (j .axes)) (y :
   -- a distance is a number
   pub distance-known : T (known (distance j p q))
   unfolding distance
-  distance-known = plain-known _ (distance-plain binary64 (point (j .left) p) (point (j .right) q) (j .axes) x y)
+  distance-known = known-of-rows binary64 (point (j .left) p) (point (j .right) q) (j .axes) x y
 
   module _ (b : Boxes) (l : Within (j .axes) (j .left) 0 b p) (r : Within (j .axes) (j .right) 4 b q) where
     pub lower-ok : T (le (lower (j .axes) b) (distance j p q))

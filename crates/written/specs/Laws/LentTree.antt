@@ -9,7 +9,7 @@ use lib.Pow.{pow-mono}
 use lib.Dec.{T, leb, leb→le, nleb→lt}
 use Rattle.written.specs.Places.{In}
 use Rattle.written.specs.LentTree.{Tree, leaves, places, start, firstFrom, levels, Cursor, root, middle, near, far, Node, the-root, near-of, far-of, part}
-use Rattle.written.specs.RadiusWalk.{all}
+use Rattle.written.specs.NodePairs.{allPlaces}
 use Rattle.written.specs.Laws.Places.{Halves}
 
 -- the starts begin at 0, never fall and end at the number of items
@@ -45,7 +45,7 @@ module _ (t : Tree) (c : Cursor) (l : Laid t) (n : Node t c) where
       let y : start t (c .end) ≤ start t (leaves t) = l .rises (c .end) (leaves t) (o .inside) (omega arith) in
       omega (arith, l .finishes)
 
-pub part-root : (t : Tree) → Laid t → part t (root t) ≡ all t
+pub part-root : (t : Tree) → Laid t → part t (root t) ≡ allPlaces t
 part-root t l = rw (l .begins, l .finishes, sub-zero)
 
 -- ---- levels: the least exponent whose power of two is not below m

@@ -16,7 +16,7 @@ use Rattle.written.specs.Places.{In, inside}
 use Rattle.written.specs.LentTree.{places, isLeaf}
 use Rattle.written.specs.Boxes.{Trees, distance, lower, under, beyond}
 use Rattle.written.specs.Visits.{Fate, whole, is, Step, Seen, seen, Ends}
-use Rattle.written.specs.RadiusWalk.{Side, leftSide, rightSide, NodePair, treeOf, start, stemLevels, noLeaf, picked, split, descend, visit, leftPart, rightPart, all}
+use Rattle.written.specs.NodePairs.{Side, leftSide, rightSide, NodePair, treeOf, rootPair, stemLevels, noLeaf, picked, split, descend, visit, leftPart, rightPart, allPlaces}
 use Rattle.written.specs.Nearest.{Neighbour, unset, answerAt, improve, atEach, offer, update, farthest, nearRuledOut, nearStep, nearWalk}
 use Rattle.written.specs.Laws.Tests.{gave, either, not-both}
 use Rattle.written.specs.Laws.Places.{inside-true}
@@ -44,12 +44,12 @@ beginning j = replicate (places (j .left)) unset
 
 pub height-near : (j : Trees) → height (nearWalk j .0) ≤ stemLevels j
 unfolding nearWalk
-height-near j = height-carries (nearStep j) (update j) (stemLevels j) (beginning j) (start j) _
+height-near j = height-carries (nearStep j) (update j) (stemLevels j) (beginning j) (rootPair j) _
 
 -- nothing is taken whole
 pub near-not-whole : (j : Trees) → Ends (λ v k. is whole k ≡ 0) (nearWalk j .0)
 unfolding nearWalk
-near-not-whole j = carry-fates (nearStep j) (update j) (λ k. is whole k ≡ 0) refl allowed (stemLevels j) (beginning j) (start j)
+near-not-whole j = carry-fates (nearStep j) (update j) (λ k. is whole k ≡ 0) refl allowed (stemLevels j) (beginning j) (rootPair j)
   where
     allowed : (c : List Neighbour) (s : NodePair) → Allows (λ k. is whole k ≡ 0) (nearStep j c s)
     allowed c s = unfold nearStep in visit-not-whole j (nearRuledOut j c s) s
@@ -74,7 +74,7 @@ HeldOffer j = NoFarther (nearStep j) (update j) (leftPart j) (rightPart j) answe
 
 -- what then holds of the walk
 abbrev pub NearCarried : (j : Trees) → Type 0
-NearCarried j = Carried (nearStep j) (update j) (leftPart j) (rightPart j) answerAt (λ y. y .distance) (offer j) (λ x y. T (le x y)) (Fine j) (Good j) (stemLevels j) (beginning j) (start j)
+NearCarried j = Carried (nearStep j) (update j) (leftPart j) (rightPart j) answerAt (λ y. y .distance) (offer j) (λ x y. T (le x y)) (Fine j) (Good j) (stemLevels j) (beginning j) (rootPair j)
 
 module _ (j : Trees) (ok : (x : Side) → Accepted (j .axes) (treeOf j x)) where
   offer-known : (p q : ℕ) → p < places (j .left) → q < places (j .right) → T (known (offer j p q .distance))
@@ -170,14 +170,14 @@ module _ (j : Trees) (ok : (x : Side) → Accepted (j .axes) (treeOf j x)) where
   pub near-carried : NearCarried j
   near-carried =
       carried (nearStep j) (update j) (leftPart j) (rightPart j) answerAt (λ y. y .distance) (offer j) (λ x y. T (le x y)) (Fine j) (Good j) le-trans law
-      (stemLevels j) (beginning j) (start j) fine-beginning (good-start j ok)
+      (stemLevels j) (beginning j) (rootPair j) fine-beginning (good-start j ok)
 
-  at-near : at (nearWalk j .0) ≡ seen (beginning j) (start j)
+  at-near : at (nearWalk j .0) ≡ seen (beginning j) (rootPair j)
   unfolding nearWalk
-  at-near = at-carries (nearStep j) (update j) (stemLevels j) (beginning j) (start j) _
+  at-near = at-carries (nearStep j) (update j) (stemLevels j) (beginning j) (rootPair j) _
 
-  pub near-left : leftPart j (at (nearWalk j .0) .pair) ≡ all (j .left)
+  pub near-left : leftPart j (at (nearWalk j .0) .pair) ≡ allPlaces (j .left)
   near-left = rw at-near (part-root (j .left) (ok leftSide .laid))
 
-  pub near-right : rightPart j (at (nearWalk j .0) .pair) ≡ all (j .right)
+  pub near-right : rightPart j (at (nearWalk j .0) .pair) ≡ allPlaces (j .right)
   near-right = rw at-near (part-root (j .right) (ok rightSide .laid))

@@ -13,7 +13,8 @@ use Rattle.written.specs.Places.{Part, In, cross}
 use Rattle.written.specs.LentTree.{places, isLeaf, part}
 use Rattle.written.specs.Boxes.{Trees, point, distance, lower, upper, Edge, passes, beyond}
 use Rattle.written.specs.Visits.{Fate, measured, ruled, whole, is, Step, gather, Ends}
-use Rattle.written.specs.RadiusWalk.{Side, leftSide, rightSide, NodePair, treeOf, cursorOf, start, stemLevels, noLeaf, picked, split, descend, visit, Found, leftPart, rightPart, area, all, keepIf, kept, counted, keep, ruledOut, takenWhole, step, walk, leafPair, found, count}
+use Rattle.written.specs.NodePairs.{Side, leftSide, rightSide, NodePair, treeOf, cursorOf, rootPair, stemLevels, noLeaf, picked, split, descend, visit, leftPart, rightPart, area, allPlaces}
+use Rattle.written.specs.RadiusWalk.{Found, keepIf, kept, counted, keep, ruledOut, takenWhole, step, walk, leafPair, found, count}
 use Rattle.written.specs.Laws.Tests.{either, both}
 use Rattle.written.specs.Laws.Lists.{perm-of-eq, perm-length}
 use Rattle.written.specs.Laws.Visits.{at, height}
@@ -28,12 +29,12 @@ use Rattle.written.specs.Laws.RadiusWalk.{Accepted, Good, good-start, la
 
 pub height-walk : (j : Trees) (e : Edge) (r : Float) (c : Bool) → height (walk j e r c) ≤ stemLevels j
 unfolding walk
-height-walk j e r c = height-runs (step j e r c) (stemLevels j) (start j) _
+height-walk j e r c = height-runs (step j e r c) (stemLevels j) (rootPair j) _
 
 -- only a count takes node pairs whole
 pub walk-not-whole : (j : Trees) (e : Edge) (r : Float) → Ends (λ s k. is whole k ≡ 0) (walk j e r false)
 unfolding walk
-walk-not-whole j e r = run-fates (step j e r false) (λ k. is whole k ≡ 0) refl allowed (stemLevels j) (start j)
+walk-not-whole j e r = run-fates (step j e r false) (λ k. is whole k ≡ 0) refl allowed (stemLevels j) (rootPair j)
   where
     allowed : (s : NodePair) → Allows (λ k. is whole k ≡ 0) (step j e r false s)
     allowed s = unfold step in visit-not-whole j (ruledOut j e r s) s
@@ -108,20 +109,20 @@ module _ (j : Trees) (ok : (x : Side) → Accepted (j .axes) (treeOf j x)) where
 
     pub walk-tiled : (c : Bool) → Tiled (leftPart j) (rightPart j) (walk j edge radius c)
     unfolding walk
-    walk-tiled c = run-tiled (step j edge radius c) (leftPart j) (rightPart j) (keep j edge radius) (Good j) (law c) (stemLevels j) (start j) (good-start j ok)
+    walk-tiled c = run-tiled (step j edge radius c) (leftPart j) (rightPart j) (keep j edge radius) (Good j) (law c) (stemLevels j) (rootPair j) (good-start j ok)
 
     pub walk-sound : (c : Bool) → Ends (Fair (leftPart j) (rightPart j) (keep j edge radius)) (walk j edge radius c)
     unfolding walk
-    walk-sound c = run-sound (step j edge radius c) (leftPart j) (rightPart j) (keep j edge radius) (Good j) (law c) (stemLevels j) (start j) (good-start j ok)
+    walk-sound c = run-sound (step j edge radius c) (leftPart j) (rightPart j) (keep j edge radius) (Good j) (law c) (stemLevels j) (rootPair j) (good-start j ok)
 
-    at-walk : (c : Bool) → at (walk j edge radius c) ≡ start j
+    at-walk : (c : Bool) → at (walk j edge radius c) ≡ rootPair j
     unfolding walk
-    at-walk c = at-runs (step j edge radius c) (stemLevels j) (start j) _
+    at-walk c = at-runs (step j edge radius c) (stemLevels j) (rootPair j) _
 
-    pub walk-left : (c : Bool) → leftPart j (at (walk j edge radius c)) ≡ all (j .left)
+    pub walk-left : (c : Bool) → leftPart j (at (walk j edge radius c)) ≡ allPlaces (j .left)
     walk-left c = rw (at-walk c) (part-root (j .left) (ok leftSide .laid))
 
-    pub walk-right : (c : Bool) → rightPart j (at (walk j edge radius c)) ≡ all (j .right)
+    pub walk-right : (c : Bool) → rightPart j (at (walk j edge radius c)) ≡ allPlaces (j .right)
     walk-right c = rw (at-walk c) (part-root (j .right) (ok rightSide .laid))
 
     -- ---- what it finds and counts
@@ -143,13 +144,13 @@ module _ (j : Trees) (ok : (x : Side) → Accepted (j .axes) (treeOf j x)) where
     counted-ok s ruled h = sym (ap length (ruled-none (leftPart j) (rightPart j) (keep j edge radius) s h))
     counted-ok s whole h = sym (whole-all (leftPart j) (rightPart j) (keep j edge radius) s h)
 
-    pub found-perm : List·Permᴰ (found j edge radius) (cross (keep j edge radius) (all (j .left)) (all (j .right)))
+    pub found-perm : List·Permᴰ (found j edge radius) (cross (keep j edge radius) (allPlaces (j .left)) (allPlaces (j .right)))
     unfolding found
     found-perm =
         subst₂ (λ (l r : Part). List·Permᴰ (gather (λ s k. kept (leafPair j edge radius s) k) (walk j edge radius false)) (cross (keep j edge radius) l r)) (walk-left false) (walk-right false)
         (finds (leftPart j) (rightPart j) (keep j edge radius) (λ s k. kept (leafPair j edge radius s) k) kept-ok (walk j edge radius false) (walk-tiled false) (walk-sound false))
 
-    pub count-all : count j edge radius ≡ length (cross (keep j edge radius) (all (j .left)) (all (j .right)))
+    pub count-all : count j edge radius ≡ length (cross (keep j edge radius) (allPlaces (j .left)) (allPlaces (j .right)))
     unfolding count
     count-all =
         counts (leftPart j) (rightPart j) (keep j edge radius) (λ s k. counted (length (leafPair j edge radius s)) (area j s) k) counted-ok (walk j edge radius true) (walk-tiled true) (walk-sound true)

@@ -15,7 +15,7 @@ use Rattle.written.specs.LentTree.{Tree, places, start, coord, Cursor, r
 use Rattle.written.specs.Check.{isTop}
 use Rattle.written.specs.Boxes.{Trees, Boxes, everywhere, lowered, raised}
 use Rattle.written.specs.Visits.{whole, is}
-use Rattle.written.specs.RadiusWalk.{Side, leftSide, rightSide, NodePair, treeOf, cursorOf, corner, moved, start as startPair, stemLevels, noLeaf, picked, cutAt, cutBy, nearHalf, farHalf, halves, split, descend, visit, leftPart, rightPart}
+use Rattle.written.specs.NodePairs.{Side, leftSide, rightSide, NodePair, treeOf, cursorOf, corner, moved, rootPair, stemLevels, noLeaf, picked, cutAt, cutBy, nearHalf, farHalf, halves, split, descend, visit, leftPart, rightPart}
 use Rattle.written.specs.Laws.Tests.{either, not-zero}
 use Rattle.written.specs.Laws.Places.{Halves, in-first, in-then, halves-all}
 use Rattle.written.specs.Laws.Covered.{Cut, cut-left, cut-right}
@@ -78,7 +78,7 @@ module _ (j : Trees) where
     corner≤4 leftSide = omega arith
     corner≤4 rightSide = omega arith
 
-    pub good-start : Good (stemLevels j) (startPair j)
+    pub good-start : Good (stemLevels j) (rootPair j)
     good-start = record { node = node; boxed = boxed; left-over = refl; sized = record { mins-size = refl; maxs-size = refl } }
       where
         everywhere-in : (t : Tree) → Accepted (j .axes) t → (i : ℕ) → i ≤ 4 → Boxed (j .axes) t i (root t) everywhere
@@ -86,11 +86,11 @@ module _ (j : Trees) where
             let w = finite-known (coord t d p) (a .finites d p y (part-in t (root t) (a .laid) the-root x)) in
             (rw (getD-replicate 8 (i + d) (inf true) nan (omega (arith, a .few-axes))) (bottom-le (coord t d p) w), rw (getD-replicate 8 (i + d) (inf false) nan (omega (arith, a .few-axes))) (le-top (coord t d p) w))
 
-        node : (x : Side) → Node (treeOf j x) (cursorOf x (startPair j))
+        node : (x : Side) → Node (treeOf j x) (cursorOf x (rootPair j))
         node leftSide = the-root
         node rightSide = the-root
 
-        boxed : (x : Side) → Boxed (j .axes) (treeOf j x) (corner x) (cursorOf x (startPair j)) everywhere
+        boxed : (x : Side) → Boxed (j .axes) (treeOf j x) (corner x) (cursorOf x (rootPair j)) everywhere
         boxed leftSide = everywhere-in (j .left) (ok leftSide) 0 (omega arith)
         boxed rightSide = everywhere-in (j .right) (ok rightSide) 4 (omega arith)
 

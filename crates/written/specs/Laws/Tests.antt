@@ -54,8 +54,8 @@ three false b c = (λ e. absurd (true≢false (sym e)), λ h. h .0)
 pub at-most : (m n : ℕ) → (leb m n ≡ true) ↔ (m ≤ n)
 at-most m n = (λ e. leb→le m n (gave e), λ h. T-true (leb m n) (le→leb m n h))
 
-pub over : (m n : ℕ) → n < m → leb m n ≡ false
-over m n h = denies (leb m n) (λ (g : T (leb m n)). omega (arith, leb→le m n g))
+pub exceeds : (m n : ℕ) → n < m → leb m n ≡ false
+exceeds m n h = denies (leb m n) (λ (g : T (leb m n)). omega (arith, leb→le m n g))
 
 pub equal : (m n : ℕ) → (eqb m n ≡ true) ↔ (m ≡ n)
 equal m n = (λ e. eqb→eq m n (gave e), λ h. T-true (eqb m n) (subst (λ (k : ℕ). T (eqb m k)) h (eqb-refl m)))
