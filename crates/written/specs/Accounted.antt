@@ -11,7 +11,7 @@ use Rattle.written.specs.Places.{Part, In, ind}
 use Rattle.written.specs.LentTree.{places}
 use Rattle.written.specs.Boxes.{Trees, distance, Edge}
 use Rattle.written.specs.Visits.{Fate, measured, ruled, whole, Seen, Ends}
-use Rattle.written.specs.NodePairs.{NodePair, leftPart, rightPart, area, allPlaces}
+use Rattle.written.specs.NodePairs.{Side, treeOf, NodePair, leftPart, rightPart, area, allPlaces}
 use Rattle.written.specs.RadiusWalk.{pairOf, passing, keep, walk}
 use Rattle.written.specs.Nearest.{Neighbour, answerAt, offer, nearWalk, noPoints, nearest}
 use Rattle.written.specs.Totals.{none, totalsOf, walkTotals, nearTotals, walkTimes, nearTimes}
@@ -20,6 +20,7 @@ use Rattle.written.specs.Right.{nearest-least}
 use Rattle.written.specs.Laws.Places.{ind-in}
 use Rattle.written.specs.Laws.Visits.{ends-map}
 use Rattle.written.specs.Laws.Covered.{Tiled, Fair, ends-at, under-in, totals-area, totals-once}
+use Rattle.written.specs.Laws.RadiusWalk.{Accepted}
 use Rattle.written.specs.Laws.Pairs.{kept-none, kept-one, walk-tiled, walk-sound, walk-left, walk-right}
 use Rattle.written.specs.Laws.Nearest.{HeldOffer, near-carried, near-left, near-right}
 use Rattle.written.specs.Laws.Points.{no-product}
@@ -32,43 +33,46 @@ here-once m n p q h k =
     rw (ind-in x, ind-in y) refl
 
 module _ (j : Trees) (ok : Accepts j) where
+  abbrev trees : (x : Side) → Accepted (j .axes) (treeOf j x)
+  trees = both-accepted j ok
+
   module _ (edge : Edge) (radius : Float) (counting : Bool) where
     -- each pair of places is measured, ruled out or taken whole, exactly once
     pub each-pair-once : (p q : ℕ) → p < places (j .left) → q < places (j .right)
         → walkTimes j edge radius counting measured p q + walkTimes j edge radius counting ruled p q + walkTimes j edge radius counting whole p q ≡ 1
     each-pair-once p q h k =
-        totals-once (leftPart j) (rightPart j) p q (walk j edge radius counting) (walk-tiled j (both-accepted j ok) edge radius counting)
-        ∙ ap₂ (λ (l r : Part). ind p l * ind q r) (walk-left j (both-accepted j ok) edge radius counting) (walk-right j (both-accepted j ok) edge radius counting)
+        totals-once (leftPart j) (rightPart j) p q (walk j edge radius counting) (walk-tiled j trees edge radius counting)
+        ∙ ap₂ (λ (l r : Part). ind p l * ind q r) (walk-left j trees edge radius counting) (walk-right j trees edge radius counting)
         ∙ here-once (places (j .left)) (places (j .right)) p q h k
 
     -- the three totals add up to the product of the point numbers
     pub totals-add-up : walkTotals j edge radius counting .measured + walkTotals j edge radius counting .ruledOut + walkTotals j edge radius counting .whole ≡ places (j .left) * places (j .right)
     unfolding walkTotals
     totals-add-up =
-        totals-area (leftPart j) (rightPart j) (walk j edge radius counting) (walk-tiled j (both-accepted j ok) edge radius counting)
-        ∙ ap₂ (λ (l r : Part). l .size * r .size) (walk-left j (both-accepted j ok) edge radius counting) (walk-right j (both-accepted j ok) edge radius counting)
+        totals-area (leftPart j) (rightPart j) (walk j edge radius counting) (walk-tiled j trees edge radius counting)
+        ∙ ap₂ (λ (l r : Part). l .size * r .size) (walk-left j trees edge radius counting) (walk-right j trees edge radius counting)
 
     -- no pair ruled out would have passed, none taken whole would have failed
     pub ruled-out-would-not-pass : (p q : ℕ) → 0 < walkTimes j edge radius counting ruled p q → passing j edge radius p q ≡ false
     ruled-out-would-not-pass p q h =
-        let v = ends-at (leftPart j) (rightPart j) (Fair (leftPart j) (rightPart j) (keep j edge radius)) ruled p q (walk j edge radius counting) (walk-sound j (both-accepted j ok) edge radius counting) h in
+        let v = ends-at (leftPart j) (rightPart j) (Fair (leftPart j) (rightPart j) (keep j edge radius)) ruled p q (walk j edge radius counting) (walk-sound j trees edge radius counting) h in
         unfold keep in (kept-none (pairOf j edge radius p q) (passing j edge radius p q) (v .1 p q (v .2) (v .3)))
 
     pub whole-would-not-fail : (p q : ℕ) → 0 < walkTimes j edge radius counting whole p q → passing j edge radius p q ≡ true
     whole-would-not-fail p q h =
-        let v = ends-at (leftPart j) (rightPart j) (Fair (leftPart j) (rightPart j) (keep j edge radius)) whole p q (walk j edge radius counting) (walk-sound j (both-accepted j ok) edge radius counting) h in
+        let v = ends-at (leftPart j) (rightPart j) (Fair (leftPart j) (rightPart j) (keep j edge radius)) whole p q (walk j edge radius counting) (walk-sound j trees edge radius counting) h in
         unfold keep in (kept-one (pairOf j edge radius p q) (passing j edge radius p q) (v .1 p q (v .2) (v .3)))
 
   -- ---- nearest
 
   near-tiled : Tiled {S = Seen (List Neighbour) NodePair} (λ v. leftPart j (v .pair)) (λ v. rightPart j (v .pair)) (nearWalk j .0)
   unfolding nearWalk
-  near-tiled = near-carried j (both-accepted j ok) .tiled
+  near-tiled = near-carried j trees .tiled
 
   near-times : (p q : ℕ) → nearTimes j measured p q + nearTimes j ruled p q + nearTimes j whole p q ≡ ind p (allPlaces (j .left)) * ind q (allPlaces (j .right))
   near-times p q =
       totals-once (λ v. leftPart j (v .pair)) (λ v. rightPart j (v .pair)) p q (nearWalk j .0) near-tiled
-      ∙ ap₂ (λ (l r : Part). ind p l * ind q r) (near-left j (both-accepted j ok)) (near-right j (both-accepted j ok))
+      ∙ ap₂ (λ (l r : Part). ind p l * ind q r) (near-left j trees) (near-right j trees)
 
   pub near-each-pair-once : (p q : ℕ) → p < places (j .left) → q < places (j .right) → nearTimes j measured p q + nearTimes j ruled p q + nearTimes j whole p q ≡ 1
   near-each-pair-once p q h k = near-times p q ∙ here-once (places (j .left)) (places (j .right)) p q h k
@@ -82,7 +86,7 @@ module _ (j : Trees) (ok : Accepts j) where
       go true e = sym (no-product j e)
       go false e =
           totals-area (λ v. leftPart j (v .pair)) (λ v. rightPart j (v .pair)) (nearWalk j .0) near-tiled
-          ∙ ap₂ (λ (l r : Part). l .size * r .size) (near-left j (both-accepted j ok)) (near-right j (both-accepted j ok))
+          ∙ ap₂ (λ (l r : Part). l .size * r .size) (near-left j trees) (near-right j trees)
 
   -- at each visit ruled out, the answer then held of a left place was no farther than any right place of the visit
   abbrev pub HeldNoFarther : Seen (List Neighbour) NodePair → Fate → Type 0
@@ -98,7 +102,7 @@ module _ (j : Trees) (ok : Accepts j) where
 
   pub ruled-out-was-no-nearer : Ends HeldNoFarther (nearWalk j .0)
   unfolding nearWalk
-  ruled-out-was-no-nearer = ends-map offered (nearWalk j .0) (near-carried j (both-accepted j ok) .held)
+  ruled-out-was-no-nearer = ends-map offered (nearWalk j .0) (near-carried j trees .held)
 
   -- so no pair ruled out would have lowered a final distance
   pub ruled-out-would-not-lower : (p q : ℕ) → 0 < nearTimes j ruled p q → T (le (answerAt (nearest j) p .distance) (distance j p q))

@@ -14,7 +14,7 @@ use Rattle.written.specs.LentTree.{Tree, leaves, places, start, stemCoun
 use Rattle.written.specs.Check.{every, leafOk, pivotOk, leftOk, rightOk, topOk, Rule, rule₁, rule₂, rule₃, rule₄, rule₅, rule₆, rule₇, numberOf, keeps, refusedAt, refusal}
 use Rattle.written.specs.Rules.{StartsKept, Kept, FirstBroken, none-broken, first-broken}
 use Rattle.written.specs.Laws.Tests.{gave, T-true, not-both, both, three, at-most, equal}
-use Rattle.written.specs.Laws.Check.{every-below, every-node, pivot-ok, order-ok}
+use Rattle.written.specs.Laws.Check.{every-below, every-node, stems-are, pivot-ok, order-ok}
 
 module _ (K : ℕ) (t : Tree) where
   -- ---- each test means its rule
@@ -61,12 +61,10 @@ module _ (K : ℕ) (t : Tree) where
         λ h. b .1 (at-most 1 n .1 (h .0), at-most n 4097 .1 (h .1), at-most (places t) 65536 .1 (h .2)),
       )
   rule-means rule₃ =
-      let m = length (t .stems) in
-      let n = length (t .coords) in
-      let b = both (eqb m (stemCount (leaves t))) (eqb n (K * places t)) in (
-        λ e. (equal m (stemCount (leaves t)) .0 (b .0 e .0), equal n (K * places t) .0 (b .0 e .1)),
-        λ h. b .1 (equal m (stemCount (leaves t)) .1 (h .0), equal n (K * places t) .1 (h .1)),
-      )
+      let m = stems-are (leaves t) (length (t .stems)) in
+      let n = equal (length (t .coords)) (K * places t) in
+      let b = both (eqb (length (t .stems)) (stemCount (leaves t))) (eqb (length (t .coords)) (K * places t)) in
+      (λ e. let s = m .0 (b .0 e .0) in (s .0, s .1, n .0 (b .0 e .1)), λ h. b .1 (m .1 (h .0, h .1), n .1 (h .2)))
   rule-means rule₄ = starts-mean
   rule-means rule₅ =
       let e = every-below (λ i. finite (getD (t .coords) i nan)) (length (t .coords)) in

@@ -11,13 +11,14 @@ use lib.Ieee.{Float, inf, le}
 use Rattle.written.specs.Places.{In}
 use Rattle.written.specs.LentTree.{Tree, places, item, root, the-root, part}
 use Rattle.written.specs.Boxes.{Trees, distance, Edge}
-use Rattle.written.specs.NodePairs.{leftSide, rightSide}
+use Rattle.written.specs.NodePairs.{treeOf, Side, leftSide, rightSide}
 use Rattle.written.specs.RadiusWalk.{allAgainstAll, found, count}
 use Rattle.written.specs.Nearest.{Neighbour, unset, answerAt, offer, nearWalk, nearest}
 use Rattle.written.specs.Answers.{Accepts}
 use Rattle.written.specs.Laws.Lists.{perm-length}
 use Rattle.written.specs.Laws.LentTree.{Laid, part-in, part-root}
 use Rattle.written.specs.Laws.Boxes.{distance-antisymm}
+use Rattle.written.specs.Laws.RadiusWalk.{Accepted}
 use Rattle.written.specs.Laws.Pairs.{finite-at, found-perm, count-all}
 use Rattle.written.specs.Laws.Nearest.{near-carried}
 use Rattle.written.specs.Laws.Neighbours.{get-unset, le-inf}
@@ -25,15 +26,18 @@ use Rattle.written.specs.Laws.Accepted.{both-accepted}
 use Rattle.written.specs.Laws.Points.{has-points}
 
 module _ (j : Trees) (ok : Accepts j) where
+  abbrev trees : (x : Side) → Accepted (j .axes) (treeOf j x)
+  trees = both-accepted j ok
+
   -- ---- pairs and counts
 
   -- the list found is a rearrangement of all-against-all, each pair of places once
   pub found-is-rearrangement : (edge : Edge) (radius : Float) → List·Permᴰ (found j edge radius) (allAgainstAll j edge radius)
-  found-is-rearrangement = found-perm j (both-accepted j ok)
+  found-is-rearrangement = found-perm j trees
 
   -- the count is its length, in both readings
   pub count-is-its-length : (edge : Edge) (radius : Float) → count j edge radius ≡ length (found j edge radius)
-  count-is-its-length edge radius = count-all j (both-accepted j ok) edge radius ∙ sym (perm-length (found-is-rearrangement edge radius))
+  count-is-its-length edge radius = count-all j trees edge radius ∙ sym (perm-length (found-is-rearrangement edge radius))
 
   -- ---- nearest
 
@@ -48,14 +52,14 @@ module _ (j : Trees) (ok : Accepts j) where
   least : (p q : ℕ) → p < places (j .left) → q < places (j .right) → T (le (answerAt (nearWalk j .1) p .distance) (distance j p q))
   unfolding nearWalk offer
   least p q h k =
-      near-carried j (both-accepted j ok) .settled .low p q (in-root (j .left) (both-accepted j ok leftSide .laid) p h) (in-root (j .right) (both-accepted j ok rightSide .laid) q k)
+      near-carried j trees .settled .low p q (in-root (j .left) (trees leftSide .laid) p h) (in-root (j .right) (trees rightSide .laid) q k)
 
   origin : (p : ℕ) → (answerAt (nearWalk j .1) p ≡ unset) ⊎ ((q : ℕ) × (q < places (j .right)) × (answerAt (nearWalk j .1) p ≡ offer j p q))
   unfolding nearWalk
   origin p =
-      elim (near-carried j (both-accepted j ok) .settled .«from» p) [
+      elim (near-carried j trees .settled .«from» p) [
         | inl e ↦ inl (e ∙ get-unset (places (j .left)) p)
-        | inr x ↦ inr (x .0, part-in (j .right) (root (j .right)) (both-accepted j ok rightSide .laid) the-root (x .1), x .2)
+        | inr x ↦ inr (x .0, part-in (j .right) (root (j .right)) (trees rightSide .laid) the-root (x .1), x .2)
       ]
 
   -- with points on both sides there is an answer for each left place
@@ -63,7 +67,7 @@ module _ (j : Trees) (ok : Accepts j) where
   nearest-for-each h k = rw (walk-answers 0 0 h k) size
     where
       size : length (nearWalk j .1) ≡ places (j .left)
-      size = unfold nearWalk in near-carried j (both-accepted j ok) .fine .size
+      size = unfold nearWalk in near-carried j trees .fine .size
 
   module _ (p : ℕ) (h : p < places (j .left)) (some : 0 < places (j .right)) where
     -- no rounded distance of the place is below its answer's
@@ -92,7 +96,6 @@ module _ (j : Trees) (ok : Accepts j) where
     pub nearest-only : (q : ℕ) → q < places (j .right) → ((r : ℕ) → r < places (j .right) → T (le (distance j p q) (distance j p r))) → answerAt (nearest j) p .distance ≡ distance j p q
     nearest-only q k all =
         let a = nearest-attained in
-        let ok′ = both-accepted j ok in
         a .2
-        ∙ distance-antisymm j p (a .0) q (finite-at j ok′ leftSide p h) (finite-at j ok′ rightSide (a .0) (a .1)) (finite-at j ok′ rightSide q k)
+        ∙ distance-antisymm j p (a .0) q (finite-at j trees leftSide p h) (finite-at j trees rightSide (a .0) (a .1)) (finite-at j trees rightSide q k)
         (subst (λ (x : Float). T (le x (distance j p q))) (a .2) (nearest-least q k)) (all (a .0) (a .1))

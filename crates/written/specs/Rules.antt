@@ -3,13 +3,13 @@
 use mathlib.Core.Path.{_≡_}
 use mathlib.Core.Logic.{_≢_}
 use mathlib.Core.Bool.{true, false}
-use Prim.Native.Nat.{ℕ, suc, _-_, _*_, _≤_, _<_}
+use Prim.Native.Nat.{ℕ, suc, _-_, _*_, _^_, _≤_, _<_}
 use lib.ListN.{length, getD}
 use lib.Dec.{T}
 use lib.Ieee.{nan, inf, lt}
 use lib.Ieee.Scale.{finite}
 use Rattle.written.specs.Places.{In}
-use Rattle.written.specs.LentTree.{Tree, leaves, places, start, coord, stemCount, Cursor, span, near, far, Node, axis, pivot, part}
+use Rattle.written.specs.LentTree.{Tree, leaves, places, start, coord, levels, Cursor, span, near, far, Node, axis, pivot, part}
 use Rattle.written.specs.Check.{Rule, rule₁, rule₂, rule₃, rule₄, rule₅, rule₆, rule₇, numberOf}
 
 -- 4
@@ -29,7 +29,7 @@ pub record OrderKept (K : ℕ) (t : Tree) (c : Cursor) : Type 0 where
 abbrev pub Kept : ℕ → Tree → Rule → Type 0
 Kept K t rule₁ = (1 ≤ K) × (K ≤ 4)
 Kept K t rule₂ = (1 ≤ length (t .starts)) × (length (t .starts) ≤ 4097) × (places t ≤ 65536)
-Kept K t rule₃ = (length (t .stems) ≡ stemCount (leaves t)) × (length (t .coords) ≡ K * places t)
+Kept K t rule₃ = (leaves t < 2 → length (t .stems) ≡ 0) × (2 ≤ leaves t → length (t .stems) ≡ 2 ^ levels (leaves t)) × (length (t .coords) ≡ K * places t)
 Kept K t rule₄ = StartsKept t
 Kept K t rule₅ = (i : ℕ) → i < length (t .coords) → T (finite (getD (t .coords) i nan))
 Kept K t rule₆ = (c : Cursor) → Node t c → 0 < c .rest → 0 < span c → (pivot t c ≢ nan) × (pivot t c ≢ inf true)

@@ -46,7 +46,7 @@ module _ (K : ℕ) (t : Tree) (kept : (r : Rule) → Kept K t r) where
       record { begins = s .first-zero; rises = λ i k. rising (start t) (leaves t) (s .none-falls) k i; finishes = s .last-n }
 
   finites : (d p : ℕ) → d < K → p < places t → T (finite (coord t d p))
-  finites d p x y = kept rule₅ (d * places t + p) (omega (arith, kept rule₃ .1, digits-lt x y))
+  finites d p x y = kept rule₅ (d * places t + p) (omega (arith, kept rule₃ .2, digits-lt x y))
 
   module _ (c : Cursor) (n : Node t c) (h : 0 < c .rest) where
     -- a node with a point has a leaf, so its pivot is a number

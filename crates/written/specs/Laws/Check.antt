@@ -1,14 +1,14 @@
 -- What the check's tests mean: a test at every place of a stretch, a test at every node. Assumes nothing.
 use mathlib.Core.Path.{_≡_, refl, sym, ap}
 use mathlib.Core.Logic.{inl, inr, _↔_, _≢_}
-use mathlib.Core.Bool.{Bool, true, false, not, _&&_, _||_, true≢false}
-use Prim.Native.Nat.{ℕ, zero, suc, _+_, _-_, _≤_, _<_}
+use mathlib.Core.Bool.{Bool, true, false, not, _&&_, _||_, cond, true≢false}
+use Prim.Native.Nat.{ℕ, zero, suc, _+_, _-_, _^_, _≤_, _<_}
 use native.Mathlib.Decide.{ℕ-discrete}
 use native.Mathlib.Omega.{arith}
-use lib.Dec.{T, eqb}
+use lib.Dec.{T, ltb, eqb, ltb→lt, nltb→le}
 use lib.Ieee.{Float, nan, inf, fin, lt}
 use Rattle.written.specs.Places.{Part, In}
-use Rattle.written.specs.LentTree.{Tree, coord, Cursor, root, span, near, far, Node, the-root, near-of, far-of, axis, pivot, part}
+use Rattle.written.specs.LentTree.{Tree, coord, levels, stemCount, Cursor, root, span, near, far, Node, the-root, near-of, far-of, axis, pivot, part}
 use Rattle.written.specs.Check.{every, everyIn, down, noPivot, isTop, pivotOk, leftOk, rightOk, topOk}
 use Rattle.written.specs.Rules.{OrderKept}
 use Rattle.written.specs.Laws.Tests.{gave, not-both, not-true, both, three, either, equal, not-zero}
@@ -71,6 +71,15 @@ module _ (test : Cursor → Bool) where
 
   pub every-node : (t : Tree) → (down test (root t .rest) (root t) ≡ true) ↔ ((c : Cursor) → Node t c → 0 < c .rest → test c ≡ true)
   every-node t = (λ e c n h. down-here c h (down-node e n) .0, λ h. down-back t h (root t .rest) (root t) the-root refl)
+
+-- ---- how many stems
+
+pub stems-are : (m n : ℕ) → (eqb n (stemCount m) ≡ true) ↔ ((m < 2 → n ≡ 0) × (2 ≤ m → n ≡ 2 ^ levels m))
+stems-are m n = go (ltb m 2) (ltb→lt m 2) (nltb→le m 2)
+  where
+    go : (b : Bool) → (T b → m < 2) → (T (not b) → 2 ≤ m) → (eqb n (cond b 0 (2 ^ levels m)) ≡ true) ↔ ((m < 2 → n ≡ 0) × (2 ≤ m → n ≡ 2 ^ levels m))
+    go true h k = (λ e. (λ l. equal n 0 .0 e, λ l. absurd (omega (arith, h tt))), λ s. equal n 0 .1 (s .0 (h tt)))
+    go false h k = (λ e. (λ l. absurd (omega (arith, k tt)), λ l. equal n (2 ^ levels m) .0 e), λ s. equal n (2 ^ levels m) .1 (s .1 (k tt)))
 
 -- ---- pivots
 
