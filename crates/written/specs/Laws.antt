@@ -17,3 +17,4 @@ pub mod Check
 pub mod Accepted
 pub mod Points
 pub mod Rooms
+pub mod Checked
