@@ -14,7 +14,7 @@ use Rattle.written.specs.Visits.{Fate, measured, ruled, whole, Seen, End
 use Rattle.written.specs.NodePairs.{Side, treeOf, NodePair, leftPart, rightPart, area, allPlaces}
 use Rattle.written.specs.RadiusWalk.{pairOf, passing, keep, walk}
 use Rattle.written.specs.Nearest.{Neighbour, answerAt, offer, nearWalk, noPoints, nearest}
-use Rattle.written.specs.Totals.{none, totalsOf, walkTotals, nearTotals, walkTimes, nearTimes}
+use Rattle.written.specs.Totals.{none, accountedFor, totalsOf, walkTotals, nearTotals, walkTimes, nearTimes}
 use Rattle.written.specs.Answers.{Accepts}
 use Rattle.written.specs.Right.{nearest-least}
 use Rattle.written.specs.Laws.Places.{ind-in}
@@ -46,7 +46,7 @@ module _ (j : Trees) (ok : Accepts j) where
         ∙ here-once (places (j .left)) (places (j .right)) p q h k
 
     -- the three totals add up to the product of the point numbers
-    pub totals-add-up : walkTotals j edge radius counting .measured + walkTotals j edge radius counting .ruledOut + walkTotals j edge radius counting .whole ≡ places (j .left) * places (j .right)
+    pub totals-add-up : accountedFor (walkTotals j edge radius counting) ≡ places (j .left) * places (j .right)
     unfolding walkTotals
     totals-add-up =
         totals-area (leftPart j) (rightPart j) (walk j edge radius counting) (walk-tiled j trees edge radius counting)
@@ -77,12 +77,11 @@ module _ (j : Trees) (ok : Accepts j) where
   pub near-each-pair-once : (p q : ℕ) → p < places (j .left) → q < places (j .right) → nearTimes j measured p q + nearTimes j ruled p q + nearTimes j whole p q ≡ 1
   near-each-pair-once p q h k = near-times p q ∙ here-once (places (j .left)) (places (j .right)) p q h k
 
-  pub near-totals-add-up : nearTotals j .measured + nearTotals j .ruledOut + nearTotals j .whole ≡ places (j .left) * places (j .right)
+  pub near-totals-add-up : accountedFor (nearTotals j) ≡ places (j .left) * places (j .right)
   unfolding nearTotals
   near-totals-add-up = go (noPoints j) refl
     where
-      go : (b : Bool) → noPoints j ≡ b
-          → cond b none (totalsOf (λ v. area j (v .pair)) (nearWalk j .0)) .measured + cond b none (totalsOf (λ v. area j (v .pair)) (nearWalk j .0)) .ruledOut + cond b none (totalsOf (λ v. area j (v .pair)) (nearWalk j .0)) .whole ≡ places (j .left) * places (j .right)
+      go : (b : Bool) → noPoints j ≡ b → accountedFor (cond b none (totalsOf (λ v. area j (v .pair)) (nearWalk j .0))) ≡ places (j .left) * places (j .right)
       go true e = sym (no-product j e)
       go false e =
           totals-area (λ v. leftPart j (v .pair)) (λ v. rightPart j (v .pair)) (nearWalk j .0) near-tiled

@@ -15,7 +15,8 @@ use Rattle.written.specs.RadiusWalk.{Found, found, count}
 use Rattle.written.specs.Nearest.{nearest, noPoints}
 use Rattle.written.specs.Totals.{none, walkTotals, nearTotals}
 use Rattle.written.specs.Answers.{Answer, answered, refused, Accepts, PairRooms, pairRoomsAgree, pairsIn, pairsCall, countsCall, NearRooms, nearRoomsAgree, nearStored, nearRoomOk, nearestIn, nearestCall}
-use Rattle.written.specs.Calls.{PairRoomsAgree, NearRoomsAgree, allStored, firstStored, answersStored, PairsAnswer, pairs-tree-refused, pairs-rooms-differ, pairs-all-fit, pairs-some-fit, CountsAnswer, counts-tree-refused, counts-told, NearestAnswer, nearest-tree-refused, nearest-rooms-differ, nearest-room-short, nearest-no-points, nearest-written}
+use Rattle.written.specs.Calls.{PairRoomsAgree, NearRoomsAgree, allStored, firstStored, answersStored, PairsAnswer, pairs-tree-refused, pairs-rooms-differ, pairs-all-fit, pairs-some-fit, CountsAnswer, counts-tree-refused, counts-told}
+use Rattle.written.specs.Calls.{NearestAnswer, nearest-tree-refused, nearest-rooms-differ, nearest-room-short, nearest-no-points, nearest-written}
 use Rattle.written.specs.Right.{nearest-for-each}
 use Rattle.written.specs.Laws.Tests.{fails, not-both, both, at-most, exceeds, equal}
 use Rattle.written.specs.Laws.Checked.{on-refused, on-accepted, by-trees}

@@ -15,7 +15,7 @@ use Rattle.written.specs.Visits.{whole, deepestFar}
 use Rattle.written.specs.NodePairs.{stemLevels, area}
 use Rattle.written.specs.RadiusWalk.{keepIf, pairOf, passing, keep, allAgainstAll, walk, found, count}
 use Rattle.written.specs.Nearest.{nearWalk, noPoints}
-use Rattle.written.specs.Totals.{none, totalsOf, walkTotals, nearTotals, walkDeepest, nearDeepest}
+use Rattle.written.specs.Totals.{none, accountedFor, totalsOf, walkTotals, nearTotals, walkDeepest, nearDeepest}
 use Rattle.written.specs.Answers.{Accepts}
 use Rattle.written.specs.Checked.{accepted-means}
 use Rattle.written.specs.Right.{found-is-rearrangement, count-is-its-length}
@@ -97,10 +97,10 @@ module _ (j : Trees) (ok : Accepts j) where
   product-fits = mul-le-mul (small-left .1) (small-right .1)
 
   -- the totals are at most 2^32
-  pub totals-fit : (edge : Edge) (radius : Float) (counting : Bool) → walkTotals j edge radius counting .measured + walkTotals j edge radius counting .ruledOut + walkTotals j edge radius counting .whole ≤ 2 ^ 32
+  pub totals-fit : (edge : Edge) (radius : Float) (counting : Bool) → accountedFor (walkTotals j edge radius counting) ≤ 2 ^ 32
   totals-fit edge radius counting = omega (arith, totals-add-up j ok edge radius counting, product-fits)
 
-  pub near-totals-fit : nearTotals j .measured + nearTotals j .ruledOut + nearTotals j .whole ≤ 2 ^ 32
+  pub near-totals-fit : accountedFor (nearTotals j) ≤ 2 ^ 32
   near-totals-fit = omega (arith, near-totals-add-up j ok, product-fits)
 
   -- and so are the number found and the count

@@ -26,7 +26,12 @@ ragged = record {
 abbrev five : Trees
 five = record {
   axes = 2;
-  left = record { starts = 0 ∷ 1 ∷ 2 ∷ 3 ∷ 4 ∷ 5 ∷ []; stems = nan ∷ num 8 ∷ num 7 ∷ num 1 ∷ num 1 ∷ num 5 ∷ inf false ∷ nan ∷ []; items = 20 ∷ 21 ∷ 22 ∷ 23 ∷ 24 ∷ []; coords = num 0 ∷ num 1 ∷ num 4 ∷ num 6 ∷ num 9 ∷ num 5 ∷ num 6 ∷ num 7 ∷ num 8 ∷ num 1 ∷ [] };
+  left = record {
+    starts = 0 ∷ 1 ∷ 2 ∷ 3 ∷ 4 ∷ 5 ∷ [];
+    stems = nan ∷ num 8 ∷ num 7 ∷ num 1 ∷ num 1 ∷ num 5 ∷ inf false ∷ nan ∷ [];
+    items = 20 ∷ 21 ∷ 22 ∷ 23 ∷ 24 ∷ [];
+    coords = num 0 ∷ num 1 ∷ num 4 ∷ num 6 ∷ num 9 ∷ num 5 ∷ num 6 ∷ num 7 ∷ num 8 ∷ num 1 ∷ [];
+  };
   right = record { starts = 0 ∷ 2 ∷ []; stems = []; items = 30 ∷ 31 ∷ []; coords = num 1 ∷ num 8 ∷ num 5 ∷ num 2 ∷ [] };
 }
 
@@ -65,6 +70,12 @@ emptyHalf = record {
 abbrev long : ℕ → ℕ → Float → Tree
 long first last away = record { starts = 0 ∷ 33 ∷ []; stems = []; items = first ∷ (replicate 31 0 ++ (last ∷ [])); coords = num 0 ∷ (replicate 31 away ++ (num 0 ∷ [])) }
 
+abbrev longs : Trees
+longs = record { axes = 1; left = long 1 2 (num 1000); right = long 3 4 (num 3000) }
+
+abbrev twoToLong : Trees
+twoToLong = record { axes = 1; left = record { starts = 0 ∷ 2 ∷ []; stems = []; items = 1 ∷ 2 ∷ []; coords = num 0 ∷ num 0 ∷ [] }; right = long 3 4 (num 3000) }
+
 -- one stem against some, one leaf each
 abbrev single : Float → List ℕ → List Float → ℕ → Trees
 single x items xs n = record { axes = 1; left = record { starts = 0 ∷ 1 ∷ []; stems = []; items = 1 ∷ []; coords = x ∷ [] }; right = record { starts = 0 ∷ n ∷ []; stems = []; items = items; coords = xs } }
@@ -100,8 +111,8 @@ walks =
     ∷ pairsRow (pairs planted under (num 1) 4) 0 4 (totals 27 10 6 0) (pair 10 10 (num 0) ∷ pair 11 11 (num 0) ∷ pair 12 12 (num 0) ∷ pair 13 13 (num 0) ∷ [])
     ∷ countRow (countOf planted upTo nan) 0 (totals 31 16 0 0)
     -- tiles of 32: left tiles, within each the right tiles
-    ∷ pairsRow (pairs (record { axes = 1; left = long 1 2 (num 1000); right = long 3 4 (num 3000) }) upTo (num 1) 4) 0 4 (totals 1 1089 0 0) (pair 1 3 (num 0) ∷ pair 1 4 (num 0) ∷ pair 2 3 (num 0) ∷ pair 2 4 (num 0) ∷ [])
-    ∷ pairsRow (pairs (record { axes = 1; left = record { starts = 0 ∷ 2 ∷ []; stems = []; items = 1 ∷ 2 ∷ []; coords = num 0 ∷ num 0 ∷ [] }; right = long 3 4 (num 3000) }) upTo (num 1) 4) 0 4 (totals 1 66 0 0) (pair 1 3 (num 0) ∷ pair 2 3 (num 0) ∷ pair 1 4 (num 0) ∷ pair 2 4 (num 0) ∷ [])
+    ∷ pairsRow (pairs longs upTo (num 1) 4) 0 4 (totals 1 1089 0 0) (pair 1 3 (num 0) ∷ pair 1 4 (num 0) ∷ pair 2 3 (num 0) ∷ pair 2 4 (num 0) ∷ [])
+    ∷ pairsRow (pairs twoToLong upTo (num 1) 4) 0 4 (totals 1 66 0 0) (pair 1 3 (num 0) ∷ pair 2 3 (num 0) ∷ pair 1 4 (num 0) ∷ pair 2 4 (num 0) ∷ [])
     -- nearest: ruled out at a bound that equals the largest; an empty span; ties in a leaf go to the first
     ∷ nearestRow (nearestOf stand-B 2) 2 (totals 7 3 1 0) (near 3 (num 0) ∷ near 4 (num 0) ∷ [])
     ∷ nearestRow (nearestOf ragged 2) 2 (totals 13 6 0 0) (near 3 (num 121) ∷ near 3 (num 81) ∷ [])

@@ -1,7 +1,7 @@
 -- Document 01, "Totals": visits, measured, ruled out and taken whole of each walk; and (request K2) the most entries that waited.
 -- Definitions alone. Assumes nothing.
 use mathlib.Core.Bool.{Bool, cond}
-use Prim.Native.Nat.{ℕ, _*_}
+use Prim.Native.Nat.{ℕ, _+_, _*_}
 use lib.Ieee.{Float}
 use Rattle.written.specs.Places.{ind}
 use Rattle.written.specs.Boxes.{Trees, Edge}
@@ -18,6 +18,10 @@ pub record Totals : Type 0 where
 
 abbrev pub none : Totals
 none = record { visits = 0; measured = 0; ruledOut = 0; whole = 0 }
+
+-- the three of pairs of places together
+abbrev pub accountedFor : Totals → ℕ
+accountedFor t = t .measured + t .ruledOut + t .whole
 
 -- node pairs examined, and the product of points under the node pair at each visit that ends
 abbrev pub totalsOf : {S : Type 0} → (S → ℕ) → Run S → Totals
