@@ -1,5 +1,5 @@
 -- Document 01, "Check, in this order", rules 1 to 7: a test for each rule, and the number of the first one that a tree breaks.
--- Definitions alone; specs/Rules.antt shows what each test means. Assumes nothing.
+-- Definitions alone; specs/Rules.antt says each rule as a sentence, and specs/Checked.antt that the test means it. Assumes nothing.
 use mathlib.Core.Bool.{Bool, true, false, not, _&&_, _||_, cond}
 use Prim.Native.Nat.{ℕ, zero, suc, _-_, _*_}
 use lib.ListN.{length, getD}
