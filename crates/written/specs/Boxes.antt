@@ -35,12 +35,19 @@ pub record Boxes : Type 0 where
 abbrev pub everywhere : Boxes
 everywhere = record { mins = replicate 8 (inf true); maxs = replicate 8 (inf false) }
 
--- one max lowered to the pivot, one min raised to it; never assigned, since a pivot may lie outside the box
+-- a side lowered to the pivot, and raised to it; never assigned, since a pivot may lie outside the box
+abbrev pub loweredTo : Float → Float → Float
+loweredTo v old = cond (lt v old) v old
+
+abbrev pub raisedTo : Float → Float → Float
+raisedTo v old = cond (lt old v) v old
+
+-- one max lowered, one min raised
 abbrev pub lowered : Boxes → ℕ → Float → Boxes
-lowered b i v = let old = getD (b .maxs) i nan in record { mins = b .mins; maxs = set (b .maxs) i (cond (lt v old) v old) }
+lowered b i v = record { mins = b .mins; maxs = set (b .maxs) i (loweredTo v (getD (b .maxs) i nan)) }
 
 abbrev pub raised : Boxes → ℕ → Float → Boxes
-raised b i v = let old = getD (b .mins) i nan in record { mins = set (b .mins) i (cond (lt old v) v old); maxs = b .maxs }
+raised b i v = record { mins = set (b .mins) i (raisedTo v (getD (b .mins) i nan)); maxs = b .maxs }
 
 -- the numbers from the place i on, by axis
 abbrev pub sides : List Float → ℕ → Row
