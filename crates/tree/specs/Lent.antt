@@ -1,10 +1,12 @@
 -- A lent tree as the code holds it: its four buffers (document 01, "A lent tree"), and how far a tree is checked when its nodes are. Assumes nothing.
 use mathlib.Core.List.{List}
-use mathlib.Core.Bool.{Bool, _&&_}
+use mathlib.Core.Bool.{Bool, not, _&&_, _||_}
 use Prim.Native.Nat.{ℕ}
-use lib.Ieee.{Float}
+use lib.ListN.{length, getD}
+use lib.Dec.{eqb}
+use lib.Ieee.{Float, nan, lt}
 use Rattle.written.specs.LentTree.{Tree, Cursor, Node}
-use Rattle.written.specs.Check.{rule₁, rule₂, rule₃, rule₄, leftOk, rightOk, topOk}
+use Rattle.written.specs.Check.{every, isTop, rule₁, rule₂, rule₃, rule₄, leftOk, rightOk, topOk}
 use Rattle.written.specs.Rules.{Kept}
 
 abbrev pub treeOf : List ℕ → List Float → List ℕ → List Float → Tree
@@ -21,6 +23,16 @@ pub record Stands (K : ℕ) (t : Tree) (c : Cursor) : Type 0 where
   pub lengths : Kept K t rule₃
   pub starts-kept : Kept K t rule₄
   pub node : Node t c
+
+-- rule 7 for the coordinates of two halves on one axis
+abbrev pub noneAbove : List Float → Float → Bool
+noneAbove l pivot = every (λ i. not (lt pivot (getD l i nan))) 0 (length l)
+
+abbrev pub noneBelow : List Float → Float → Bool
+noneBelow l pivot = every (λ i. not (lt (getD l i nan) pivot)) 0 (length l)
+
+abbrev pub halvesOk : List Float → List Float → Float → Bool
+halvesOk left right pivot = noneAbove left pivot && noneBelow right pivot && (not (isTop pivot) || eqb (length right) 0)
 
 -- rule 7 at one node
 abbrev pub orderAt : ℕ → Tree → Cursor → Bool

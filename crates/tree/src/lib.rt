@@ -1,6 +1,6 @@
 // The check of one lent tree: rules 1 to 7 of the table, in that order. Added by the port.
 ghost use mathlib.Core.Path.{_≡_};
-ghost use lib.ListN.{length};
+ghost use mathlib.Core.List.{[]};
 ghost use Prim.Native.Nat.{_≤_};
 ghost use Rattle.written.specs.LentTree.{stemCount};
 ghost use Rattle.written.specs.Check.{axesOk, sizesOk, lengthsOk, coordsOk, refusal as refusalOf};

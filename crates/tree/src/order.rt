@@ -1,12 +1,9 @@
 // Rule 7: no point of a node's left half is above its pivot, none of its right half below it, and under a pivot of +inf the right half holds none.
 ghost use mathlib.Core.Path.{_≡_};
-ghost use mathlib.Core.Bool.{not};
 ghost use Prim.Native.Nat.{_<_};
-ghost use lib.ListN.{length, getD};
-ghost use lib.Ieee.{lt, nan};
-ghost use Rattle.written.specs.Check.{every, down, isTop};
+ghost use Rattle.written.specs.Check.{down, isTop};
 ghost use Rattle.cursor.specs.Held.{nodeOf};
-ghost use Rattle.tree.specs.Lent.{treeOf, Stands, orderAt};
+ghost use Rattle.tree.specs.Lent.{treeOf, Stands, noneAbove, noneBelow, halvesOk, orderAt};
 use cursor::Cursor;
 
 fn is_top(x: f64) -> bool
@@ -16,7 +13,7 @@ fn is_top(x: f64) -> bool
 }
 
 fn none_above(part: &[f64], pivot: f64) -> bool
-    ensures { λ r. ⌜ r ≡ every (λ i. not (lt pivot (getD (now (part .entry)) i nan))) 0 (length (now (part .entry))) ⌝ }
+    ensures { λ r. ⌜ r ≡ noneAbove (now (part .entry)) pivot ⌝ }
 {
     let mut i = 0;
     while i < part.len() {
@@ -29,7 +26,7 @@ fn none_above(part: &[f64], pivot: f64) -> bool
 }
 
 fn none_below(part: &[f64], pivot: f64) -> bool
-    ensures { λ r. ⌜ r ≡ every (λ i. not (lt (getD (now (part .entry)) i nan) pivot)) 0 (length (now (part .entry))) ⌝ }
+    ensures { λ r. ⌜ r ≡ noneBelow (now (part .entry)) pivot ⌝ }
 {
     let mut i = 0;
     while i < part.len() {
@@ -42,7 +39,9 @@ fn none_below(part: &[f64], pivot: f64) -> bool
 }
 
 // The node's own pivot, against the coordinates of its two halves on its axis.
-fn halves_ok(left: &[f64], right: &[f64], pivot: f64) -> bool {
+fn halves_ok(left: &[f64], right: &[f64], pivot: f64) -> bool
+    ensures { λ r. ⌜ r ≡ halvesOk (now (left .entry)) (now (right .entry)) pivot ⌝ }
+{
     if !none_above(left, pivot) {
         return false;
     }
