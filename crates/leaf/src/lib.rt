@@ -1,0 +1,6 @@
+// The loops over two leaves: left tiles of at most 32 places, within each the right tiles, then left points, then right points (kiddo: leaf.rs, nearest.rs `update_leaf`).
+pub mod axes;
+pub mod counts;
+pub mod nearest;
+pub mod pairs;
+pub mod rooms;
