@@ -1,5 +1,6 @@
 // Rule 6: a node over at least one leaf has a pivot that is neither NaN nor -inf.
 ghost use mathlib.Core.Path.{_≡_};
+ghost use Prim.Native.Nat.{_<_};
 ghost use Rattle.written.specs.Check.{down, noPivot, pivotOk};
 ghost use Rattle.cursor.specs.Held.{nodeOf};
 ghost use Rattle.tree.specs.Lent.{treeOf, Stands};
@@ -15,7 +16,7 @@ fn no_pivot(x: f64) -> bool
 }
 
 fn pivot_ok(k: u32, starts: &[u32], stems: &[f64], items: &[u32], coords: &[f64], c: Cursor) -> bool
-    requires { ⌜ Stands k (treeOf (now starts) (now stems) (now items) (now coords)) (nodeOf c) ⌝ }
+    requires { ⌜ Stands k (treeOf (now starts) (now stems) (now items) (now coords)) (nodeOf c) × (0 < c .remaining) ⌝ }
     ensures { λ r. ⌜ r ≡ pivotOk k (treeOf (now (starts .entry)) (now (stems .entry)) (now (items .entry)) (now (coords .entry))) (nodeOf c) ⌝ }
 {
     if c.span() == 0 {

@@ -33,6 +33,10 @@ rising f m h (suc k) i x y = go (rising f m h k i) (ℕ-discrete i (suc k))
     go g (yes e) = rw e (omega arith)
     go g (no n) = omega (arith, g (omega arith) (omega arith), h k (omega arith))
 
+-- rule 4, as the walks use it: starts rise over any number of leaves
+pub starts-laid : (t : Tree) → StartsKept t → Laid t
+starts-laid t s = record { begins = s .first-zero; rises = λ i k. rising (start t) (leaves t) (s .none-falls) k i; finishes = s .last-n }
+
 known-of : (x : Float) → x ≢ nan → T (known x)
 unfolding isNan
 known-of nan h = absurd (h refl)
@@ -41,9 +45,7 @@ known-of (fin s m e) h = tt
 
 module _ (K : ℕ) (t : Tree) (kept : (r : Rule) → Kept K t r) where
   laid : Laid t
-  laid =
-      let s : StartsKept t = kept rule₄ in
-      record { begins = s .first-zero; rises = λ i k. rising (start t) (leaves t) (s .none-falls) k i; finishes = s .last-n }
+  laid = starts-laid t (kept rule₄)
 
   finites : (d p : ℕ) → d < K → p < places t → T (finite (coord t d p))
   finites d p x y = kept rule₅ (d * places t + p) (omega (arith, kept rule₃ .2, digits-lt x y))
