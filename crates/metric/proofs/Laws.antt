@@ -6,7 +6,6 @@ use mathlib.Core.Logic.{inl, inr}
 use Prim.Native.Nat.{ℕ, zero, suc, _+_, _*_, _≤_, _<_}
 use native.Mathlib.Nat.{zero-add, mul-le-mul-right, suc-mul, eq-or-lt-of-le, le-of-suc-le-suc, not-suc-le-zero}
 use native.Mathlib.Omega.{arith}
-use borrow.Author.Tests.{not-true, not-false}
 use lib.ListN.{length, getD}
 use lib.Ieee.{Float, nan, inf, binary64}
 use Rattle.rounding.specs.Bounds.{reach1, bounded, everyAxis}
@@ -14,13 +13,6 @@ use Rattle.rounding.specs.Distance.{summed}
 use Rattle.written.specs.Boxes.{sides, upper}
 use Rattle.metric.specs.Flat.{boxesOf}
 use Rattle.metric.specs.Lent.{HoldsPlace}
-
--- ---- a call's answer, tested by `!`: what the definition says then
-pub refused : {r v : Bool} → r ≡ v → not r ≡ true → v ≡ false
-refused {r} e h = sym e ∙ not-true r h
-
-pub granted : {r v : Bool} → r ≡ v → not r ≡ false → v ≡ true
-granted {r} e h = sym e ∙ not-false r h
 
 -- ---- each axis of a place stands in its buffer
 pub inside : {K : ℕ} {coords : List Float} {n p : ℕ} → HoldsPlace K coords n p → (d : ℕ) → d < K → d * n + p < length coords

@@ -5,15 +5,7 @@ use Prim.Native.Nat.{ℕ, zero, suc, _+_, _-_, _≤_, _<_}
 use native.Mathlib.Nat.{sub-zero, add-zero, add-suc, suc-add}
 use native.Mathlib.Numerals.{add-one}
 use native.Mathlib.Omega.{arith}
-use borrow.Author.Tests.{not-true, not-false}
 use Rattle.written.specs.Check.{every}
-
--- ---- a call's answer, tested by `!`: what the definition says then
-pub refused : {r v : Bool} → r ≡ v → not r ≡ true → v ≡ false
-refused {r} e h = sym e ∙ not-true r h
-
-pub granted : {r v : Bool} → r ≡ v → not r ≡ false → v ≡ true
-granted {r} e h = sym e ∙ not-false r h
 
 -- ---- the loop over m places
 module _ (test : ℕ → Bool) (m : ℕ) where

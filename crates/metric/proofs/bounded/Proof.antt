@@ -1,6 +1,6 @@
 -- Each early return decides the conjunction of the four tests. Assumes nothing.
 use borrow.Author.Needs.{needs}
-use Rattle.metric.proofs.Laws.{refused, granted}
+use Rattle.written.specs.Laws.Tests.{refused, granted}
 use Rattle.metric.proofs.bounded.Statement.{statement}
 use Rattle.metric.proofs.bounded.Tie as tie
 

@@ -7,7 +7,8 @@ use native.Mathlib.Numerals.{add-one}
 use lib.Ieee.{add, div, binary64, ofBits}
 use Rattle.rounding.specs.Bounds.{reach1, bounded, everyAxis}
 use Rattle.rounding.specs.Distance.{summed}
-use Rattle.metric.proofs.Laws.{at-axis, refused, granted, reachAt, boundedAt, upper-closed, upper-open, fails, holds-next}
+use Rattle.written.specs.Laws.Tests.{refused, granted}
+use Rattle.metric.proofs.Laws.{at-axis, reachAt, boundedAt, upper-closed, upper-open, fails, holds-next}
 use borrow.Author.Needs.{needs}
 use Rattle.metric.proofs.upper.Statement.{statement}
 use Rattle.metric.proofs.upper.Tie as tie

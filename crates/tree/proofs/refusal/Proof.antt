@@ -9,7 +9,7 @@ use Rattle.written.specs.Checked.{rule-means}
 use Rattle.cursor.specs.Held.{nodeOf}
 use Rattle.tree.specs.Lent.{treeOf, Sized, Stands, orderAt}
 use Rattle.tree.proofs.Descent.{under}
-use Rattle.tree.proofs.Every.{refused, granted}
+use Rattle.written.specs.Laws.Tests.{refused, granted}
 use Rattle.tree.proofs.refusal.Statement.{statement}
 use Rattle.tree.proofs.refusal.Tie as tie
 

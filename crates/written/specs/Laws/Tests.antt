@@ -24,6 +24,15 @@ pub fails : (t : Bool) → (t ≡ true → ⊥) → t ≡ false
 fails true h = absurd (h refl)
 fails false h = refl
 
+-- a call's answer r, tested by `!`, where it equals a definition's v
+pub refused : {r v : Bool} → r ≡ v → not r ≡ true → v ≡ false
+refused {r = true} e h = absurd (true≢false (sym h))
+refused {r = false} e h = sym e
+
+pub granted : {r v : Bool} → r ≡ v → not r ≡ false → v ≡ true
+granted {r = true} e h = sym e
+granted {r = false} e h = absurd (true≢false h)
+
 pub not-both : {t : Bool} → t ≡ true → t ≡ false → ⊥
 not-both e f = true≢false (sym e ∙ f)
 

@@ -9,7 +9,7 @@ use Rattle.written.specs.LentTree.{Cursor}
 use Rattle.cursor.specs.Held.{nodeOf}
 use Rattle.tree.specs.Lent.{treeOf, Stands, orderAt}
 use Rattle.tree.proofs.Descent.{last-passes, fails-here, fails-near, far-decides}
-use Rattle.tree.proofs.Every.{refused, granted}
+use Rattle.written.specs.Laws.Tests.{refused, granted}
 use Rattle.tree.proofs.Nodes.{splits, near-stands, far-stands}
 use Rattle.tree.proofs.order.order_ok.Reads as order-ok
 use Rattle.tree.proofs.order.order_ok.Kinds as order-ok-kinds

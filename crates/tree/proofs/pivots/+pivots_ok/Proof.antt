@@ -10,7 +10,7 @@ use Rattle.written.specs.Check.{pivotOk}
 use Rattle.cursor.specs.Held.{nodeOf}
 use Rattle.tree.specs.Lent.{treeOf, Stands}
 use Rattle.tree.proofs.Descent.{last-passes, fails-here, fails-near, far-decides}
-use Rattle.tree.proofs.Every.{refused, granted}
+use Rattle.written.specs.Laws.Tests.{refused, granted}
 use Rattle.tree.proofs.Nodes.{splits, near-stands, far-stands}
 use Rattle.tree.proofs.pivots.pivots_ok.Reads as pivots-ok
 use Rattle.tree.proofs.pivots.pivots_ok.Kinds as pivots-ok-kinds
