@@ -1,0 +1,3 @@
+//! Stands in for `kd_tree/query/mod.rs`: mounts the source's tree joins.
+
+pub mod tree;
