@@ -27,6 +27,7 @@ pairsAt distances left ritems = map (λ j. record { left = left; right = getD ri
 -- m places of a tile, which can be counted with those found before
 pub record Emits (places : List ℕ) (m : ℕ) (ritems : List ℕ) (found : ℕ) : Type 0 where
   pub many : length places ≡ m
+  pub few : m ≤ 32
   pub in-tile : (i : ℕ) → i < m → getD places i 0 < length ritems
   pub tile-small : length ritems ≤ 32
   pub countable : found + m ≤ 2 ^ 63

@@ -4,3 +4,7 @@ pub mod Kept
 pub mod Rooms
 pub mod Emitted
 pub mod Answers
+pub mod Fits
+pub mod Stored
+pub mod Each
+pub mod Stretches

@@ -6,8 +6,8 @@ ghost use Rattle.rounding.specs.Distance.{zero₊};
 ghost use Rattle.leaf.specs.Sums.{Holds, grown, sumTo, Fresh, PointTile};
 
 // The first axis: the sums begin at 0.
-fn set_axis(sums: &mut [f64; 32], q: f64, column: &[f64])
-    requires { ⌜ length (now column) ≤ 32 ⌝ }
+fn set_axis(sums: &mut [f64], q: f64, column: &[f64])
+    requires { ⌜ length (now column) ≤ length (now sums) ⌝ }
     ensures { λ r. ⌜ Holds (now (sums .exit)) (length (now (column .entry))) (λ j. grown zero₊ q (getD (now (column .entry)) j nan)) ⌝ }
 {
     let mut j = 0;
@@ -18,8 +18,8 @@ fn set_axis(sums: &mut [f64; 32], q: f64, column: &[f64])
 }
 
 // A later axis.
-fn add_axis(sums: &mut [f64; 32], q: f64, column: &[f64])
-    requires { ⌜ length (now column) ≤ 32 ⌝ }
+fn add_axis(sums: &mut [f64], q: f64, column: &[f64])
+    requires { ⌜ length (now column) ≤ length (now sums) ⌝ }
     ensures { λ r. ⌜ Holds (now (sums .exit)) (length (now (column .entry))) (λ j. grown (getD (now (sums .entry)) j nan) q (getD (now (column .entry)) j nan)) ⌝ }
 {
     let mut j = 0;
@@ -48,11 +48,11 @@ pub fn first_axes(
     if k == 1 {
         return;
     }
-    set_axis(&mut *sums, pcoords[p], cursor::tile(coords, n, 0, a, e));
+    set_axis(sums, pcoords[p], cursor::tile(coords, n, 0, a, e));
     let mut d = 1;
     while d < k - 1 {
         let at = d * pn + p;
-        add_axis(&mut *sums, pcoords[at], cursor::tile(coords, n, d, a, e));
+        add_axis(sums, pcoords[at], cursor::tile(coords, n, d, a, e));
         d += 1;
     }
 }

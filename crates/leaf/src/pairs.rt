@@ -21,9 +21,9 @@ fn last_axis(
     column: &[f64],
     radius: f64,
     under: bool,
-    dists: &mut [f64; 32],
+    dists: &mut [f64],
 ) -> u64
-    requires { ⌜ length (now column) ≤ 32 ⌝ }
+    requires { ⌜ (length (now column) ≤ 32) × (length (now column) ≤ length (now dists)) ⌝ }
     ensures { λ r. ⌜ Holds (now (dists .exit)) (length (now (column .entry))) (reached (now (sums .entry)) q (now (column .entry))) ⌝ }
     ensures { λ r. ⌜ r ≡ hits (passing (edgeOf under) radius (reached (now (sums .entry)) q (now (column .entry)))) (length (now (column .entry))) ⌝ }
 {
@@ -39,8 +39,8 @@ fn last_axis(
 }
 
 // The places of a tile that pass, in rising order. Each place is written, and stays if it passes: no branch.
-fn passing_places(dists: &[f64; 32], len: usize, radius: f64, under: bool, places: &mut [u32; 32])
-    requires { ⌜ len ≤ 32 ⌝ }
+fn passing_places(dists: &[f64; 32], len: usize, radius: f64, under: bool, places: &mut [u32])
+    requires { ⌜ (len ≤ 32) × (len ≤ length (now places)) ⌝ }
     ensures { λ r. ⌜ take (hits (passing (edgeOf under) radius (row (now (dists .entry)))) len) (now (places .exit)) ≡ placesOf (passing (edgeOf under) radius (row (now (dists .entry)))) len ⌝ }
 {
     let mut n: usize = 0;
@@ -100,8 +100,7 @@ fn emit_all(
     requires { ⌜ SameRooms (now lout) (now rout) (now dout) ⌝ }
     ensures { λ r. ⌜ filling r (now (lout .exit)) (now (rout .exit)) (now (dout .exit)) ≡ puts (filling found (now (lout .entry)) (now (rout .entry)) (now (dout .entry))) (pairsAt (now (dists .entry)) left (now (ritems .entry)) (placesBelow (length (now (ritems .entry))))) ⌝ }
 {
-    let m = ritems.len();
-    let fit = fitting(m, found, lout.len());
+    let fit = fitting(ritems.len(), found, lout.len());
     let at = found as usize;
     let mut j = 0;
     while j < fit {
@@ -115,7 +114,7 @@ fn emit_all(
         store(pair, at + j, &mut *lout, &mut *rout, &mut *dout);
         j += 1;
     }
-    found + m as u64
+    found + ritems.len() as u64
 }
 
 // A left point against a right tile. Where none passes nothing is stored, and where all pass there are no places to look for.
@@ -155,7 +154,7 @@ fn point_tile(
         cursor::tile(rcoords, rn, last, ra, re),
         radius,
         under,
-        &mut *dists,
+        dists,
     ) as usize;
     if m == 0 {
         return found;
@@ -173,7 +172,7 @@ fn point_tile(
             &mut *dout,
         );
     }
-    passing_places(&*dists, part.len(), radius, under, &mut *places);
+    passing_places(&*dists, part.len(), radius, under, places);
     emit(
         &*dists,
         &*places,
