@@ -1,7 +1,7 @@
 -- What the tests of specs/Calls.antt say. Assumes nothing.
 use mathlib.Core.Path.{_≡_}
 use mathlib.Core.List.{List}
-use mathlib.Core.Bool.{Bool, true, false, _&&_}
+use mathlib.Core.Bool.{Bool, true, _&&_}
 use Prim.Native.Nat.{ℕ, _*_}
 use lib.ListN.{length}
 use lib.Dec.{leb, ltb, eqb}
@@ -10,7 +10,7 @@ use borrow.Author.Tests.{ltb-true, leb-true, eqb-true}
 use Rattle.written.specs.Laws.Tests.{both}
 use Rattle.metric.specs.Lent.{HoldsPlace}
 use Rattle.leaf.specs.Lent.{Stretch, LeafPair}
-use Rattle.beside.specs.Calls.{placeOk, sideOk, pairOk}
+use Rattle.beside.specs.Calls.{placeOk, sideOk, pairOk, alikeOk}
 
 pub place-held : {K : ℕ} {coords : List Float} {n p : ℕ} → placeOk K coords n p ≡ true → HoldsPlace K coords n p
 place-held {K} {coords} {n} {p} e =
@@ -34,3 +34,8 @@ pair-held {K} {litems} {lcoords} {ls} {lend} {ritems} {rcoords} {rs} {rend} e =
     let b = both (leb 1 K && leb K 4) left .0 (a .0) in
     let d = both (leb 1 K) (leb K 4) .0 (b .0) in
     record { some-axes = leb-true 1 K (d .0); few-axes = leb-true K 4 (d .1); left = side-held (b .1); right = side-held (a .1) }
+
+pub alike-held : {a b c : ℕ} → alikeOk a b c ≡ true → (a ≡ b) × (a ≡ c)
+alike-held {a} {b} {c} e =
+    let h = both (eqb a b) (eqb a c) .0 e in
+    (eqb-true a b (h .0), eqb-true a c (h .1))

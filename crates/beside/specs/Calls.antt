@@ -1,7 +1,7 @@
 -- What the exported functions are asked, as tests, and what they answer. Assumes nothing.
 use mathlib.Core.List.{List, map}
 use mathlib.Core.Bool.{Bool, _&&_}
-use Prim.Native.Nat.{ℕ, _-_, _*_}
+use Prim.Native.Nat.{ℕ, _*_}
 use lib.ListN.{length}
 use lib.Dec.{leb, ltb, eqb}
 use lib.Ieee.{Float}
@@ -18,12 +18,9 @@ sideOk K items coords from to = leb (length items) 65536 && leb from to && leb t
 abbrev pub pairOk : ℕ → List ℕ → List Float → ℕ → ℕ → List ℕ → List Float → ℕ → ℕ → Bool
 pairOk K litems lcoords ls lend ritems rcoords rs rend = leb 1 K && leb K 4 && sideOk K litems lcoords ls lend && sideOk K ritems rcoords rs rend
 
--- three buffers of one length; an answer for each place of the leaf
-abbrev pub roomsOk : List ℕ → List ℕ → List Float → Bool
-roomsOk lefts rights distances = eqb (length lefts) (length rights) && eqb (length lefts) (length distances)
-
-abbrev pub answersOk : ℕ → ℕ → List ℕ → List Float → Bool
-answersOk ls lend items distances = eqb (length items) (lend - ls) && eqb (length distances) (lend - ls)
+-- three lengths are one
+abbrev pub alikeOk : ℕ → ℕ → ℕ → Bool
+alikeOk a b c = eqb a b && eqb a c
 
 -- an update's answer and what it leaves
 pub record Updated : Type 0 where

@@ -1,7 +1,7 @@
 // Whether the arguments of a call are a leaf pair, or a place, of trees that the library serves.
 ghost use mathlib.Core.Path.{_≡_};
 ghost use Prim.Native.Nat.{_≤_};
-ghost use Rattle.beside.specs.Calls.{placeOk, sideOk, pairOk};
+ghost use Rattle.beside.specs.Calls.{placeOk, sideOk, pairOk, alikeOk};
 
 // A place p of n points over k axes.
 pub fn place_ok(k: u32, coords: &[f64], n: usize, p: usize) -> bool
@@ -59,4 +59,14 @@ pub fn pair_ok(
         return false;
     }
     side_ok(k, ritems, rcoords, rs, rend)
+}
+
+// Three lengths are one.
+pub fn alike(a: usize, b: usize, c: usize) -> bool
+    ensures { λ r. ⌜ r ≡ alikeOk a b c ⌝ }
+{
+    if a != b {
+        return false;
+    }
+    a == c
 }

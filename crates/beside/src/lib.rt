@@ -16,10 +16,11 @@ ghost use Rattle.leaf.specs.Lent.{joinOf};
 ghost use Rattle.leaf.specs.Kept.{keeps, ofLeaves};
 ghost use Rattle.leaf.specs.Rooms.{filling, puts};
 ghost use Rattle.leaf.specs.Answers.{answers, improved};
-ghost use Rattle.beside.specs.Calls.{placeOk, pairOk, roomsOk, answersOk, updated, improvedTo};
+ghost use Rattle.beside.specs.Calls.{placeOk, pairOk, alikeOk, updated, improvedTo};
 
 mod asked;
 
+use crate::asked::alike;
 use crate::asked::pair_ok;
 use crate::asked::place_ok;
 
@@ -147,15 +148,12 @@ pub extern "C" fn oul_leaf_pairs(
     rout: &mut [u32],
     dout: &mut [f64],
 ) -> u64
-    ensures { λ r. ⌜ filling r (now (lout .exit)) (now (rout .exit)) (now (dout .exit)) ≡ cond (pairOk k (now (litems .entry)) (now (lcoords .entry)) ls lend (now (ritems .entry)) (now (rcoords .entry)) rs rend && roomsOk (now (lout .entry)) (now (rout .entry)) (now (dout .entry))) (puts (filling 0 (now (lout .entry)) (now (rout .entry)) (now (dout .entry))) (ofLeaves (keeps k radius under (now (litems .entry)) (now (lcoords .entry)) (now (ritems .entry)) (now (rcoords .entry))) ls lend rs rend)) (filling (2 ^ 64 - 1) (now (lout .entry)) (now (rout .entry)) (now (dout .entry))) ⌝ }
+    ensures { λ r. ⌜ filling r (now (lout .exit)) (now (rout .exit)) (now (dout .exit)) ≡ cond (pairOk k (now (litems .entry)) (now (lcoords .entry)) ls lend (now (ritems .entry)) (now (rcoords .entry)) rs rend && alikeOk (length (now (lout .entry))) (length (now (rout .entry))) (length (now (dout .entry)))) (puts (filling 0 (now (lout .entry)) (now (rout .entry)) (now (dout .entry))) (ofLeaves (keeps k radius under (now (litems .entry)) (now (lcoords .entry)) (now (ritems .entry)) (now (rcoords .entry))) ls lend rs rend)) (filling (2 ^ 64 - 1) (now (lout .entry)) (now (rout .entry)) (now (dout .entry))) ⌝ }
 {
     if !pair_ok(k, litems, lcoords, ls, lend, ritems, rcoords, rs, rend) {
         return 0xffff_ffff_ffff_ffff;
     }
-    if lout.len() != rout.len() {
-        return 0xffff_ffff_ffff_ffff;
-    }
-    if lout.len() != dout.len() {
+    if !alike(lout.len(), rout.len(), dout.len()) {
         return 0xffff_ffff_ffff_ffff;
     }
     leaf::pairs::leaf_pairs(
@@ -192,15 +190,12 @@ pub extern "C" fn oul_update_leaf(
     items: &mut [u32],
     dists: &mut [f64],
 ) -> u32
-    ensures { λ r. ⌜ updated r (now (items .exit)) (now (dists .exit)) ≡ cond (pairOk k (now (litems .entry)) (now (lcoords .entry)) ls lend (now (ritems .entry)) (now (rcoords .entry)) rs rend && answersOk ls lend (now (items .entry)) (now (dists .entry))) (improvedTo 1 (improved (joinOf k (now (litems .entry)) (now (lcoords .entry)) (now (ritems .entry)) (now (rcoords .entry))) ls rs rend (answers (now (items .entry)) (now (dists .entry))))) (updated 0 (now (items .entry)) (now (dists .entry))) ⌝ }
+    ensures { λ r. ⌜ updated r (now (items .exit)) (now (dists .exit)) ≡ cond (pairOk k (now (litems .entry)) (now (lcoords .entry)) ls lend (now (ritems .entry)) (now (rcoords .entry)) rs rend && alikeOk (lend - ls) (length (now (items .entry))) (length (now (dists .entry)))) (improvedTo 1 (improved (joinOf k (now (litems .entry)) (now (lcoords .entry)) (now (ritems .entry)) (now (rcoords .entry))) ls rs rend (answers (now (items .entry)) (now (dists .entry))))) (updated 0 (now (items .entry)) (now (dists .entry))) ⌝ }
 {
     if !pair_ok(k, litems, lcoords, ls, lend, ritems, rcoords, rs, rend) {
         return 0;
     }
-    if items.len() != lend - ls {
-        return 0;
-    }
-    if dists.len() != lend - ls {
+    if !alike(lend - ls, items.len(), dists.len()) {
         return 0;
     }
     leaf::nearest::update_leaf(
