@@ -1,4 +1,5 @@
-//! The Rattle library `beside`: a slice arrives there as pointer and length.
+//! The Rattle library `beside`: a slice arrives there as pointer
+//! and length, an array as pointer.
 
 /// One side of a leaf pair: a tree's items and coordinates, and the places of
 /// the leaf in them.
@@ -89,20 +90,8 @@ mod c {
             rn: usize,
             q: usize,
         ) -> f64;
-        pub fn oul_lower(
-            min: *const f64,
-            min_len: usize,
-            max: *const f64,
-            max_len: usize,
-            k: u32,
-        ) -> f64;
-        pub fn oul_upper(
-            min: *const f64,
-            min_len: usize,
-            max: *const f64,
-            max_len: usize,
-            k: u32,
-        ) -> f64;
+        pub fn oul_lower(min: *const f64, max: *const f64, k: u32) -> f64;
+        pub fn oul_upper(min: *const f64, max: *const f64, k: u32) -> f64;
         pub fn oul_accepts(distance: f64, radius: f64, under: bool) -> bool;
         pub fn oul_beyond(bound: f64, radius: f64, under: bool) -> bool;
         pub fn oul_check(
@@ -223,11 +212,11 @@ pub fn distance(k: u32, l: Leaf, p: usize, r: Leaf, q: usize) -> f64 {
 }
 
 pub fn lower(min: &[f64; 8], max: &[f64; 8], k: u32) -> f64 {
-    unsafe { c::oul_lower(min.as_ptr(), 8, max.as_ptr(), 8, k) }
+    unsafe { c::oul_lower(min.as_ptr(), max.as_ptr(), k) }
 }
 
 pub fn upper(min: &[f64; 8], max: &[f64; 8], k: u32) -> f64 {
-    unsafe { c::oul_upper(min.as_ptr(), 8, max.as_ptr(), 8, k) }
+    unsafe { c::oul_upper(min.as_ptr(), max.as_ptr(), k) }
 }
 
 pub fn accepts(distance: f64, radius: f64, under: bool) -> bool {
