@@ -1,20 +1,20 @@
 -- For callers: what storing pairs one after the other leaves, and which of the trees' buffers what is kept depends on. Assumes nothing.
 use mathlib.Core.Path.{_≡_, refl, ap, _∙_}
 use mathlib.Core.List.{List, [], _∷_, _++_, map}
+use mathlib.Core.Bool.{Bool}
 use Prim.Native.Nat.{ℕ, zero, suc, _+_}
 use native.Mathlib.Omega.{arith}
 use lib.ListN.{length, set}
 use lib.Seq.{sets}
 use lib.Ieee.{Float}
-use Rattle.written.specs.NodePairs.{NodePair}
 use Rattle.written.specs.LentTree.{start}
-use mathlib.Core.Bool.{Bool}
-use Rattle.metric.specs.Edges.{edgeOf}
-use Rattle.leaf.specs.Kept.{keeps, ofLeaves}
 use Rattle.written.specs.Boxes.{Trees, Edge}
+use Rattle.written.specs.NodePairs.{NodePair}
 use Rattle.written.specs.RadiusWalk.{Found, keep, leafPair}
 use Rattle.written.specs.Answers.{PairRooms, stored, pairsStored}
+use Rattle.metric.specs.Edges.{edgeOf}
 use Rattle.leaf.specs.Lent.{joinOf}
+use Rattle.leaf.specs.Kept.{keeps, ofLeaves}
 use Rattle.leaf.specs.Rooms.{Filling, filling, put, puts}
 
 -- ---- pairs stored in turn

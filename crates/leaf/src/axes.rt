@@ -5,7 +5,7 @@ ghost use lib.Ieee.{nan};
 ghost use Rattle.rounding.specs.Distance.{zero₊};
 ghost use Rattle.leaf.specs.Sums.{Holds, grown, sumTo, Fresh, PointTile};
 
-// The first axis: the sums begin at 0.
+// The first axis: the sums begin at 0. The row comes as a slice, since lending the array as one tells the proof how long it is.
 fn set_axis(sums: &mut [f64], q: f64, column: &[f64])
     requires { ⌜ length (now column) ≤ length (now sums) ⌝ }
     ensures { λ r. ⌜ Holds (now (sums .exit)) (length (now (column .entry))) (λ j. grown zero₊ q (getD (now (column .entry)) j nan)) ⌝ }

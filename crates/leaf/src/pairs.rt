@@ -14,7 +14,7 @@ use crate::rooms::Pair;
 use crate::rooms::fitting;
 use crate::rooms::store;
 
-// The last axis: the distances, and how many pass.
+// The last axis: the distances, and how many pass. The row comes as a slice, since lending the array as one tells the proof how long it is.
 fn last_axis(
     sums: &[f64; 32],
     q: f64,
