@@ -7,7 +7,7 @@ use lib.ListN.{length}
 use lib.Ieee.{Float}
 use Rattle.written.specs.Nearest.{Neighbour}
 use Rattle.leaf.specs.Answers.{answers}
-use Rattle.beside.specs.Calls.{Updated, updated, improvedTo}
+use Rattle.beside.specs.Calls.{updated, improvedTo}
 
 items-of : (items : List ℕ) (distances : List Float) → length items ≡ length distances → map (λ x. x .item) (answers items distances) ≡ items
 items-of [] distances h = refl

@@ -20,10 +20,6 @@ module _ (test : ℕ → Bool) where
   hits-few zero = omega arith
   hits-few (suc n) = omega (arith, hits-few n, one-at-most (test n))
 
-  pub hits-none : hits test 0 ≡ 0
-  unfolding hits
-  hits-none = refl
-
   -- one place more, as a loop adds it
   pub hits-next : {n r : ℕ} (j : ℕ) → n ≡ hits test j → r ≡ cond (test j) 1 0 → n + r ≡ hits test (j + 1)
   unfolding hits

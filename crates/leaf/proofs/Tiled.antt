@@ -3,7 +3,7 @@ use mathlib.Core.Path.{_≡_, refl, sym, ap, subst}
 use mathlib.Core.List.{List, [], _∷_, _++_}
 use Prim.Native.Nat.{ℕ, zero, suc, _+_, _-_, _≤_, _<_, min}
 use native.Mathlib.Omega.{arith}
-use Rattle.written.specs.Places.{Part, over, cross}
+use Rattle.written.specs.Places.{Part, cross}
 use Rattle.written.specs.Tiles.{tilesOf, tiles, each, byTiles}
 use Rattle.written.specs.RadiusWalk.{Found}
 use Rattle.leaf.specs.Lent.{stretch}

@@ -4,7 +4,7 @@ use mathlib.Core.Bool.{Bool}
 use Prim.Native.Nat.{ℕ, _+_, _-_, _^_, _≤_}
 use lib.ListN.{length}
 use lib.Ieee.{Float}
-use Rattle.written.specs.Places.{Part, over, cross}
+use Rattle.written.specs.Places.{over, cross}
 use Rattle.written.specs.Tiles.{tiles, each, byTiles}
 use Rattle.written.specs.RadiusWalk.{Found, keep}
 use Rattle.metric.specs.Edges.{edgeOf}

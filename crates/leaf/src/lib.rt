@@ -3,4 +3,5 @@ pub mod axes;
 pub mod counts;
 pub mod nearest;
 pub mod pairs;
+pub mod point;
 pub mod rooms;

@@ -1,6 +1,6 @@
 // A found pair, and the three buffers that are lent for pairs.
 ghost use mathlib.Core.Path.{_≡_};
-ghost use Prim.Native.Nat.{suc, _-_, _^_, _≤_, _<_, min};
+ghost use Prim.Native.Nat.{suc, _-_, _<_, min};
 ghost use lib.ListN.{length};
 ghost use Rattle.leaf.specs.Rooms.{filling, put, SameRooms};
 ghost use Rattle.leaf.specs.Emitted.{foundOf};

@@ -1,5 +1,4 @@
 -- The tests of both places decide; where they pass, the places are held. Assumes nothing.
-use mathlib.Core.Path.{refl}
 use borrow.Author.Needs.{needs}
 use lib.Ieee.{div, ofBits}
 use Rattle.written.specs.Laws.Tests.{refused, granted}

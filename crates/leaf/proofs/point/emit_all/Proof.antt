@@ -8,8 +8,8 @@ use Rattle.leaf.specs.Emitted.{placesBelow, pairsAt, Emits}
 use Rattle.leaf.proofs.Places.{below-at}
 use Rattle.leaf.proofs.Filled.{none-stored, stored-next, stored-all}
 use borrow.Author.Needs.{needs}
-use Rattle.leaf.proofs.pairs.emit_all.Statement.{statement}
-use Rattle.leaf.proofs.pairs.emit_all.Tie as tie
+use Rattle.leaf.proofs.point.emit_all.Statement.{statement}
+use Rattle.leaf.proofs.point.emit_all.Tie as tie
 
 abbrev Inv-loop : tie.InvT-loop
 Inv-loop dists left ritems found lout₀ rout₀ dout₀ fit at j₀ lout rout dout j = Emits (placesBelow (length ritems)) (length ritems) ritems found × SameRooms lout rout dout × (length lout ≡ length lout₀) × (j ≤ fit) × (fit ≡ min (length ritems) (length lout₀ - found)) × (filling (found + j) lout rout dout ≡ puts (filling found lout₀ rout₀ dout₀) (take j (pairsAt dists left ritems (placesBelow (length ritems)))))

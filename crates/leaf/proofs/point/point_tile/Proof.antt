@@ -15,8 +15,8 @@ use Rattle.leaf.proofs.Growing.{tile-column}
 use Rattle.leaf.proofs.Places.{none-pass, all-pass}
 use Rattle.leaf.proofs.Points.{hits-row, part-size, measured, point-puts, point-emits}
 use borrow.Author.Needs.{needs}
-use Rattle.leaf.proofs.pairs.point_tile.Statement.{statement}
-use Rattle.leaf.proofs.pairs.point_tile.Tie as tie
+use Rattle.leaf.proofs.point.point_tile.Statement.{statement}
+use Rattle.leaf.proofs.point.point_tile.Tie as tie
 
 -- ---- the ways up, and what holds once the last axis is added
 

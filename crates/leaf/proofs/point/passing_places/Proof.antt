@@ -9,8 +9,8 @@ use Rattle.leaf.specs.Emitted.{placesOf}
 use Rattle.leaf.proofs.Hits.{hits-next}
 use Rattle.leaf.proofs.Places.{found-few, next-few, places-next}
 use borrow.Author.Needs.{needs}
-use Rattle.leaf.proofs.pairs.passing_places.Statement.{statement}
-use Rattle.leaf.proofs.pairs.passing_places.Tie as tie
+use Rattle.leaf.proofs.point.passing_places.Statement.{statement}
+use Rattle.leaf.proofs.point.passing_places.Tie as tie
 
 abbrev Inv-loop : tie.InvT-loop
 Inv-loop dists len radius under places₀ n₀ j₀ places n j = (len ≤ 32) × (j ≤ len) × (len ≤ length places) × (length places ≡ length places₀) × (n ≡ hits (passing (edgeOf under) radius (row dists)) j) × (take n places ≡ placesOf (passing (edgeOf under) radius (row dists)) j)

@@ -8,8 +8,8 @@ use Rattle.leaf.specs.Rooms.{filling, puts, SameRooms}
 use Rattle.leaf.specs.Emitted.{pairsAt, Emits}
 use Rattle.leaf.proofs.Filled.{none-stored, stored-next, stored-all}
 use borrow.Author.Needs.{needs}
-use Rattle.leaf.proofs.pairs.emit.Statement.{statement}
-use Rattle.leaf.proofs.pairs.emit.Tie as tie
+use Rattle.leaf.proofs.point.emit.Statement.{statement}
+use Rattle.leaf.proofs.point.emit.Tie as tie
 
 abbrev Inv-loop : tie.InvT-loop
 Inv-loop dists places m left ritems found lout₀ rout₀ dout₀ fit at i₀ lout rout dout i = Emits (take m places) m ritems found × SameRooms lout rout dout × (length lout ≡ length lout₀) × (i ≤ fit) × (fit ≡ min m (length lout₀ - found)) × (filling (found + i) lout rout dout ≡ puts (filling found lout₀ rout₀ dout₀) (take i (pairsAt dists left ritems (take m places))))

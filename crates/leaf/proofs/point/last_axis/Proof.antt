@@ -14,8 +14,8 @@ use Rattle.leaf.proofs.Growing.{place-next}
 use Rattle.leaf.proofs.Hits.{hits-next}
 use Rattle.leaf.proofs.Places.{next-few}
 use borrow.Author.Needs.{needs}
-use Rattle.leaf.proofs.pairs.last_axis.Statement.{statement}
-use Rattle.leaf.proofs.pairs.last_axis.Tie as tie
+use Rattle.leaf.proofs.point.last_axis.Statement.{statement}
+use Rattle.leaf.proofs.point.last_axis.Tie as tie
 
 abbrev Inv-loop : tie.InvT-loop
 Inv-loop sums q column radius under dists₀ n₀ j₀ dists n j = (length column ≤ 32) × (j ≤ length column) × (length column ≤ length dists) × (length dists ≡ length dists₀) × Holds dists j (reached sums q column) × (n ≡ hits (passing (edgeOf under) radius (reached sums q column)) j)
