@@ -98,7 +98,7 @@ fn point_nearest(
     keep_nearer(&*sums, x, column, ritems[q], &mut *items, &mut *dists);
 }
 
-// The right places from ra up to re against a left tile, whose answers are lent.
+// The right places from rs up to rend against a left tile, whose answers are lent.
 fn tile_nearest(
     k: usize,
     litems: &[u32],
