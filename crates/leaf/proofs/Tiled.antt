@@ -7,7 +7,7 @@ use Rattle.written.specs.Places.{Part, cross}
 use Rattle.written.specs.Tiles.{tilesOf, tiles, each, byTiles}
 use Rattle.written.specs.RadiusWalk.{Found}
 use Rattle.leaf.specs.Lent.{stretch}
-use Rattle.leaf.specs.Kept.{ofPoint, ofTiles, ofTile, ofLeaves}
+use Rattle.leaf.specs.Kept.{ofPoint, ofTilePair, ofTileLeaf, ofLeaves}
 
 -- where the tile that begins at a ends, in a leaf that ends at e
 abbrev pub tileEnd : ℕ → ℕ → ℕ
@@ -56,29 +56,29 @@ tiles-done a e h =
 module _ (f : ℕ → ℕ → List Found) where
   -- ---- left points of a tile
 
-  pub point-next : (p le ra re : ℕ) → p < le → ofTiles f p le ra re ≡ ofPoint f p ra re ++ ofTiles f (suc p) le ra re
+  pub point-next : (p le ra re : ℕ) → p < le → ofTilePair f p le ra re ≡ ofPoint f p ra re ++ ofTilePair f (suc p) le ra re
   point-next p le ra re h =
       let size : le - p ≡ suc (le - suc p) = omega arith in
       rw size refl
 
-  pub points-done : (p le ra re : ℕ) → le ≤ p → ofTiles f p le ra re ≡ []
+  pub points-done : (p le ra re : ℕ) → le ≤ p → ofTilePair f p le ra re ≡ []
   points-done p le ra re h =
       let size : le - p ≡ 0 = omega arith in
       rw size refl
 
   -- ---- right tiles of a leaf
 
-  pub tile-next : (la le ra rend : ℕ) → ra < rend → ofTile f la le ra rend ≡ ofTiles f la le ra (tileEnd ra rend) ++ ofTile f la le (tileEnd ra rend) rend
+  pub tile-next : (la le ra rend : ℕ) → ra < rend → ofTileLeaf f la le ra rend ≡ ofTilePair f la le ra (tileEnd ra rend) ++ ofTileLeaf f la le (tileEnd ra rend) rend
   unfolding each
   tile-next la le ra rend h = ap (each (λ y. cross f (stretch la le) y)) (tiles-next ra rend h)
 
-  pub tiles-none : (la le ra rend : ℕ) → rend ≤ ra → ofTile f la le ra rend ≡ []
+  pub tiles-none : (la le ra rend : ℕ) → rend ≤ ra → ofTileLeaf f la le ra rend ≡ []
   unfolding each
   tiles-none la le ra rend h = ap (each (λ y. cross f (stretch la le) y)) (tiles-done ra rend h)
 
   -- ---- left tiles of a leaf
 
-  pub leaf-next : (la lend rs rend : ℕ) → la < lend → ofLeaves f la lend rs rend ≡ ofTile f la (tileEnd la lend) rs rend ++ ofLeaves f (tileEnd la lend) lend rs rend
+  pub leaf-next : (la lend rs rend : ℕ) → la < lend → ofLeaves f la lend rs rend ≡ ofTileLeaf f la (tileEnd la lend) rs rend ++ ofLeaves f (tileEnd la lend) lend rs rend
   unfolding byTiles each
   leaf-next la lend rs rend h = ap (each (λ x. each (λ y. cross f x y) (tiles (stretch rs rend)))) (tiles-next la lend h)
 

@@ -20,12 +20,12 @@ module _ (f : ℕ → ℕ → List Found) where
   ofPoint p a e = over (f p) a (e - a)
 
   -- left places from la up to le, right places from ra up to re, each a tile
-  abbrev pub ofTiles : ℕ → ℕ → ℕ → ℕ → List Found
-  ofTiles la le ra re = cross f (stretch la le) (stretch ra re)
+  abbrev pub ofTilePair : ℕ → ℕ → ℕ → ℕ → List Found
+  ofTilePair la le ra re = cross f (stretch la le) (stretch ra re)
 
   -- a left tile and the tiles of a right leaf
-  abbrev pub ofTile : ℕ → ℕ → ℕ → ℕ → List Found
-  ofTile la le rs rend = each (λ y. cross f (stretch la le) y) (tiles (stretch rs rend))
+  abbrev pub ofTileLeaf : ℕ → ℕ → ℕ → ℕ → List Found
+  ofTileLeaf la le rs rend = each (λ y. cross f (stretch la le) y) (tiles (stretch rs rend))
 
   abbrev pub ofLeaves : ℕ → ℕ → ℕ → ℕ → List Found
   ofLeaves ls lend rs rend = byTiles f (stretch ls lend) (stretch rs rend)

@@ -7,7 +7,7 @@ ghost use Rattle.written.specs.Boxes.{passes as passesRadius};
 ghost use Rattle.metric.specs.Edges.{edgeOf};
 ghost use Rattle.leaf.specs.Lent.{LeafPair, TilePair};
 ghost use Rattle.leaf.specs.Sums.{Fresh, PointTile, reached, passing as passingOf, hits};
-ghost use Rattle.leaf.specs.Kept.{keeps, ofPoint, ofTiles, ofTile, ofLeaves, Countable};
+ghost use Rattle.leaf.specs.Kept.{keeps, ofPoint, ofTilePair, ofTileLeaf, ofLeaves, Countable};
 use crate::axes::first_axes;
 
 // 1 where the distance passes, else 0: a number, so that the loops below have no branch.
@@ -82,8 +82,8 @@ fn tile_counts(
     re: usize,
 ) -> u64
     requires { ⌜ TilePair k (now litems) (now lcoords) la le (now ritems) (now rcoords) ra re ⌝ }
-    requires { ⌜ Countable 0 (ofTiles (keeps k radius under (now litems) (now lcoords) (now ritems) (now rcoords)) la le ra re) ⌝ }
-    ensures { λ r. ⌜ r ≡ length (ofTiles (keeps k radius under (now (litems .entry)) (now (lcoords .entry)) (now (ritems .entry)) (now (rcoords .entry))) la le ra re) ⌝ }
+    requires { ⌜ Countable 0 (ofTilePair (keeps k radius under (now litems) (now lcoords) (now ritems) (now rcoords)) la le ra re) ⌝ }
+    ensures { λ r. ⌜ r ≡ length (ofTilePair (keeps k radius under (now (litems .entry)) (now (lcoords .entry)) (now (ritems .entry)) (now (rcoords .entry))) la le ra re) ⌝ }
 {
     let mut sums = [0.0; 32];
     let mut n = 0;
@@ -123,8 +123,8 @@ fn tile_leaf_counts(
     rend: usize,
 ) -> u64
     requires { ⌜ LeafPair k (now litems) (now lcoords) la le (now ritems) (now rcoords) rs rend ⌝ }
-    requires { ⌜ Countable 0 (ofTile (keeps k radius under (now litems) (now lcoords) (now ritems) (now rcoords)) la le rs rend) ⌝ }
-    ensures { λ r. ⌜ r ≡ length (ofTile (keeps k radius under (now (litems .entry)) (now (lcoords .entry)) (now (ritems .entry)) (now (rcoords .entry))) la le rs rend) ⌝ }
+    requires { ⌜ Countable 0 (ofTileLeaf (keeps k radius under (now litems) (now lcoords) (now ritems) (now rcoords)) la le rs rend) ⌝ }
+    ensures { λ r. ⌜ r ≡ length (ofTileLeaf (keeps k radius under (now (litems .entry)) (now (lcoords .entry)) (now (ritems .entry)) (now (rcoords .entry))) la le rs rend) ⌝ }
 {
     let mut n = 0;
     let mut ra = rs;

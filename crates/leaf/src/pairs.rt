@@ -1,7 +1,7 @@
 // The pairs of two leaves that pass, in the order of document 01, stored as far as there is room.
 ghost use mathlib.Core.Path.{_≡_};
 ghost use Rattle.leaf.specs.Lent.{LeafPair, TilePair};
-ghost use Rattle.leaf.specs.Kept.{keeps, ofTiles, ofTile, ofLeaves, Countable};
+ghost use Rattle.leaf.specs.Kept.{keeps, ofTilePair, ofTileLeaf, ofLeaves, Countable};
 ghost use Rattle.leaf.specs.Rooms.{filling, puts, SameRooms};
 use crate::point::point_tile;
 
@@ -25,8 +25,8 @@ fn tile_pair(
 ) -> u64
     requires { ⌜ TilePair k (now litems) (now lcoords) la le (now ritems) (now rcoords) ra re ⌝ }
     requires { ⌜ SameRooms (now lout) (now rout) (now dout) ⌝ }
-    requires { ⌜ Countable found (ofTiles (keeps k radius under (now litems) (now lcoords) (now ritems) (now rcoords)) la le ra re) ⌝ }
-    ensures { λ r. ⌜ filling r (now (lout .exit)) (now (rout .exit)) (now (dout .exit)) ≡ puts (filling found (now (lout .entry)) (now (rout .entry)) (now (dout .entry))) (ofTiles (keeps k radius under (now (litems .entry)) (now (lcoords .entry)) (now (ritems .entry)) (now (rcoords .entry))) la le ra re) ⌝ }
+    requires { ⌜ Countable found (ofTilePair (keeps k radius under (now litems) (now lcoords) (now ritems) (now rcoords)) la le ra re) ⌝ }
+    ensures { λ r. ⌜ filling r (now (lout .exit)) (now (rout .exit)) (now (dout .exit)) ≡ puts (filling found (now (lout .entry)) (now (rout .entry)) (now (dout .entry))) (ofTilePair (keeps k radius under (now (litems .entry)) (now (lcoords .entry)) (now (ritems .entry)) (now (rcoords .entry))) la le ra re) ⌝ }
 {
     let mut sums = [0.0; 32];
     let mut dists = [0.0; 32];
@@ -78,8 +78,8 @@ fn tile_leaf(
 ) -> u64
     requires { ⌜ LeafPair k (now litems) (now lcoords) la le (now ritems) (now rcoords) rs rend ⌝ }
     requires { ⌜ SameRooms (now lout) (now rout) (now dout) ⌝ }
-    requires { ⌜ Countable found (ofTile (keeps k radius under (now litems) (now lcoords) (now ritems) (now rcoords)) la le rs rend) ⌝ }
-    ensures { λ r. ⌜ filling r (now (lout .exit)) (now (rout .exit)) (now (dout .exit)) ≡ puts (filling found (now (lout .entry)) (now (rout .entry)) (now (dout .entry))) (ofTile (keeps k radius under (now (litems .entry)) (now (lcoords .entry)) (now (ritems .entry)) (now (rcoords .entry))) la le rs rend) ⌝ }
+    requires { ⌜ Countable found (ofTileLeaf (keeps k radius under (now litems) (now lcoords) (now ritems) (now rcoords)) la le rs rend) ⌝ }
+    ensures { λ r. ⌜ filling r (now (lout .exit)) (now (rout .exit)) (now (dout .exit)) ≡ puts (filling found (now (lout .entry)) (now (rout .entry)) (now (dout .entry))) (ofTileLeaf (keeps k radius under (now (litems .entry)) (now (lcoords .entry)) (now (ritems .entry)) (now (rcoords .entry))) la le rs rend) ⌝ }
 {
     let mut n = found;
     let mut ra = rs;

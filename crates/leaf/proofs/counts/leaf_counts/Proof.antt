@@ -7,7 +7,7 @@ use native.Mathlib.Omega.{arith}
 use lib.ListN.{length, length-append}
 use Rattle.written.specs.RadiusWalk.{Found}
 use Rattle.leaf.specs.Fits.{leaf-fits}
-use Rattle.leaf.specs.Kept.{keeps, ofTile, ofLeaves}
+use Rattle.leaf.specs.Kept.{keeps, ofTileLeaf, ofLeaves}
 use Rattle.leaf.specs.Lent.{LeafPair}
 use Rattle.leaf.proofs.Hits.{counted-next}
 use Rattle.leaf.proofs.Parts.{left-part}
@@ -45,12 +45,12 @@ first : (c : tie.After-tile-end Inv-loop μ-loop)
     → let a = start c .args in
     let f = kept (start c) in
     let la = c .before .before .loop .la in
-    ofLeaves f la (a .lend) (a .rs) (a .rend) ≡ ofTile f la (c .tile-end .result) (a .rs) (a .rend) ++ ofLeaves f (c .tile-end .result) (a .lend) (a .rs) (a .rend)
+    ofLeaves f la (a .lend) (a .rs) (a .rend) ≡ ofTileLeaf f la (c .tile-end .result) (a .rs) (a .rend) ++ ofLeaves f (c .tile-end .result) (a .lend) (a .rs) (a .rend)
 first c =
     let a = start c .args in
     let f = kept (start c) in
     let la = c .before .before .loop .la in
-    subst (λ (le : ℕ). ofLeaves f la (a .lend) (a .rs) (a .rend) ≡ ofTile f la le (a .rs) (a .rend) ++ ofLeaves f le (a .lend) (a .rs) (a .rend)) (sym (c .tile-end .ensures)) (leaf-next f la (a .lend) (a .rs) (a .rend) (c .before .loop-test .taken))
+    subst (λ (le : ℕ). ofLeaves f la (a .lend) (a .rs) (a .rend) ≡ ofTileLeaf f la le (a .rs) (a .rend) ++ ofLeaves f le (a .lend) (a .rs) (a .rend)) (sym (c .tile-end .ensures)) (leaf-next f la (a .lend) (a .rs) (a .rend) (c .before .loop-test .taken))
 
 tile-leaf-counts-requires : tie.Need-tile-leaf-counts-requires Inv-loop μ-loop
 tile-leaf-counts-requires c κs =
@@ -59,7 +59,7 @@ tile-leaf-counts-requires c κs =
     let l = c .before .before .loop in
     let le = c .tile-end .result in
     let e : le ≡ l .la + min 32 (a .lend - l .la) = c .tile-end .ensures in
-    let fits = ap length (first c) ∙ length-append (ofTile f (l .la) le (a .rs) (a .rend)) (ofLeaves f le (a .lend) (a .rs) (a .rend)) in
+    let fits = ap length (first c) ∙ length-append (ofTileLeaf f (l .la) le (a .rs) (a .rend)) (ofLeaves f le (a .lend) (a .rs) (a .rend)) in
     (left-part (l .inv .2) (l .inv .0) (omega (arith, e)) (omega (arith, e, l .inv .1)), omega (arith, fits, l .inv .3, l .inv .4))
 
 -- what is left to count after the tile
@@ -73,7 +73,7 @@ left c =
     let f = kept (start (c .before)) in
     let l = c .before .before .before .loop in
     let le = c .before .tile-end .result in
-    counted-next (l .n) _ (ofTile f (l .la) le (a .rs) (a .rend)) (ofLeaves f le (a .lend) (a .rs) (a .rend)) (l .inv .3) (first (c .before)) (c .tile-leaf-counts .ensures)
+    counted-next (l .n) _ (ofTileLeaf f (l .la) le (a .rs) (a .rend)) (ofLeaves f le (a .lend) (a .rs) (a .rend)) (l .inv .3) (first (c .before)) (c .tile-leaf-counts .ensures)
 
 add-n : tie.Need-add-n Inv-loop μ-loop
 add-n c = omega (arith, left c, c .before .before .before .loop .inv .4)

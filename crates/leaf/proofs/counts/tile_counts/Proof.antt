@@ -6,7 +6,7 @@ use native.Mathlib.Nat.{le-refl, zero-add}
 use native.Mathlib.Omega.{arith}
 use native.Mathlib.Numerals.{add-one}
 use lib.ListN.{length}
-use Rattle.leaf.specs.Kept.{keeps, ofPoint, ofTiles}
+use Rattle.leaf.specs.Kept.{keeps, ofPoint, ofTilePair}
 use Rattle.leaf.specs.Lent.{TilePair}
 use Rattle.leaf.specs.Sums.{Fresh}
 use Rattle.leaf.proofs.Hits.{counted-next}
@@ -18,7 +18,7 @@ use Rattle.leaf.proofs.counts.tile_counts.Tie as tie
 abbrev Inv-loop : tie.InvT-loop
 Inv-loop k radius under litems lcoords la le ritems rcoords ra re sums₀ n₀ p₀ sums n p =
     let f = keeps k radius under litems lcoords ritems rcoords in
-    (la ≤ p) × (p ≤ le) × TilePair k litems lcoords la le ritems rcoords ra re × Fresh k sums × (n + length (ofTiles f p le ra re) ≡ length (ofTiles f la le ra re)) × (length (ofTiles f la le ra re) ≤ 2 ^ 63)
+    (la ≤ p) × (p ≤ le) × TilePair k litems lcoords la le ritems rcoords ra re × Fresh k sums × (n + length (ofTilePair f p le ra re) ≡ length (ofTilePair f la le ra re)) × (length (ofTilePair f la le ra re) ≤ 2 ^ 63)
 
 abbrev μ-loop : tie.MeasureT-loop
 μ-loop k radius under litems lcoords la le ritems rcoords ra re sums₀ n₀ p₀ sums n p = le - p
@@ -38,12 +38,12 @@ left : (c : tie.After-point-count Inv-loop μ-loop)
     → let a = c .before .before .before .before .before .before .before .before .args in
     let l = c .before .before .before .loop in
     let f = keeps (a .k) (a .radius) (a .under) (a .litems .now) (a .lcoords .now) (a .ritems .now) (a .rcoords .now) in
-    l .n + c .point-count .result + length (ofTiles f (suc (l .p)) (a .le) (a .ra) (a .re)) ≡ length (ofTiles f (a .la) (a .le) (a .ra) (a .re))
+    l .n + c .point-count .result + length (ofTilePair f (suc (l .p)) (a .le) (a .ra) (a .re)) ≡ length (ofTilePair f (a .la) (a .le) (a .ra) (a .re))
 left c =
     let a = c .before .before .before .before .before .before .before .before .args in
     let l = c .before .before .before .loop in
     let f = keeps (a .k) (a .radius) (a .under) (a .litems .now) (a .lcoords .now) (a .ritems .now) (a .rcoords .now) in
-    counted-next (l .n) _ (ofPoint f (l .p) (a .ra) (a .re)) (ofTiles f (suc (l .p)) (a .le) (a .ra) (a .re)) (l .inv .4) (point-next f (l .p) (a .le) (a .ra) (a .re) (c .before .before .loop-test .taken)) (c .point-count .ensures .0)
+    counted-next (l .n) _ (ofPoint f (l .p) (a .ra) (a .re)) (ofTilePair f (suc (l .p)) (a .le) (a .ra) (a .re)) (l .inv .4) (point-next f (l .p) (a .le) (a .ra) (a .re) (c .before .before .loop-test .taken)) (c .point-count .ensures .0)
 
 add-n : tie.Need-add-n Inv-loop μ-loop
 add-n c = omega (arith, left c, c .before .before .before .loop .inv .5)

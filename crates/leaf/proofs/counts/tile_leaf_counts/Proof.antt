@@ -6,7 +6,7 @@ use native.Mathlib.Nat.{le-refl, zero-add}
 use native.Mathlib.Omega.{arith}
 use lib.ListN.{length, length-append}
 use Rattle.written.specs.RadiusWalk.{Found}
-use Rattle.leaf.specs.Kept.{keeps, ofTiles, ofTile}
+use Rattle.leaf.specs.Kept.{keeps, ofTilePair, ofTileLeaf}
 use Rattle.leaf.specs.Lent.{LeafPair}
 use Rattle.leaf.proofs.Hits.{counted-next}
 use Rattle.leaf.proofs.Parts.{right-part}
@@ -17,7 +17,7 @@ use Rattle.leaf.proofs.counts.tile_leaf_counts.Tie as tie
 abbrev Inv-loop : tie.InvT-loop
 Inv-loop k radius under litems lcoords la le ritems rcoords rs rend n₀ ra₀ n ra =
     let f = keeps k radius under litems lcoords ritems rcoords in
-    (rs ≤ ra) × (ra ≤ rend) × LeafPair k litems lcoords la le ritems rcoords rs rend × (n + length (ofTile f la le ra rend) ≡ length (ofTile f la le rs rend)) × (length (ofTile f la le rs rend) ≤ 2 ^ 63)
+    (rs ≤ ra) × (ra ≤ rend) × LeafPair k litems lcoords la le ritems rcoords rs rend × (n + length (ofTileLeaf f la le ra rend) ≡ length (ofTileLeaf f la le rs rend)) × (length (ofTileLeaf f la le rs rend) ≤ 2 ^ 63)
 
 abbrev μ-loop : tie.MeasureT-loop
 μ-loop k radius under litems lcoords la le ritems rcoords rs rend n₀ ra₀ n ra = rend - ra
@@ -44,12 +44,12 @@ first : (c : tie.After-tile-end Inv-loop μ-loop)
     → let a = start c .args in
     let f = kept (start c) in
     let ra = c .before .before .loop .ra in
-    ofTile f (a .la) (a .le) ra (a .rend) ≡ ofTiles f (a .la) (a .le) ra (c .tile-end .result) ++ ofTile f (a .la) (a .le) (c .tile-end .result) (a .rend)
+    ofTileLeaf f (a .la) (a .le) ra (a .rend) ≡ ofTilePair f (a .la) (a .le) ra (c .tile-end .result) ++ ofTileLeaf f (a .la) (a .le) (c .tile-end .result) (a .rend)
 first c =
     let a = start c .args in
     let f = kept (start c) in
     let ra = c .before .before .loop .ra in
-    subst (λ (re : ℕ). ofTile f (a .la) (a .le) ra (a .rend) ≡ ofTiles f (a .la) (a .le) ra re ++ ofTile f (a .la) (a .le) re (a .rend)) (sym (c .tile-end .ensures)) (tile-next (kept (start c)) (a .la) (a .le) (c .before .before .loop .ra) (a .rend) (c .before .loop-test .taken))
+    subst (λ (re : ℕ). ofTileLeaf f (a .la) (a .le) ra (a .rend) ≡ ofTilePair f (a .la) (a .le) ra re ++ ofTileLeaf f (a .la) (a .le) re (a .rend)) (sym (c .tile-end .ensures)) (tile-next (kept (start c)) (a .la) (a .le) (c .before .before .loop .ra) (a .rend) (c .before .loop-test .taken))
 
 tile-counts-requires : tie.Need-tile-counts-requires Inv-loop μ-loop
 tile-counts-requires c κs =
@@ -58,7 +58,7 @@ tile-counts-requires c κs =
     let l = c .before .before .loop in
     let re = c .tile-end .result in
     let e : re ≡ l .ra + min 32 (a .rend - l .ra) = c .tile-end .ensures in
-    let fits = ap length (first c) ∙ length-append (ofTiles f (a .la) (a .le) (l .ra) re) (ofTile f (a .la) (a .le) re (a .rend)) in
+    let fits = ap length (first c) ∙ length-append (ofTilePair f (a .la) (a .le) (l .ra) re) (ofTileLeaf f (a .la) (a .le) re (a .rend)) in
     (record { pair = right-part (l .inv .2) (l .inv .0) (omega (arith, e)) (omega (arith, e, l .inv .1)); narrow = omega (arith, e) }, omega (arith, fits, l .inv .3, l .inv .4))
 
 -- what is left to count after the tile
@@ -66,13 +66,13 @@ left : (c : tie.After-tile-counts Inv-loop μ-loop)
     → let a = start (c .before) .args in
     let f = kept (start (c .before)) in
     let l = c .before .before .before .loop in
-    l .n + c .tile-counts .result + length (ofTile f (a .la) (a .le) (c .before .tile-end .result) (a .rend)) ≡ length (ofTile f (a .la) (a .le) (a .rs) (a .rend))
+    l .n + c .tile-counts .result + length (ofTileLeaf f (a .la) (a .le) (c .before .tile-end .result) (a .rend)) ≡ length (ofTileLeaf f (a .la) (a .le) (a .rs) (a .rend))
 left c =
     let a = start (c .before) .args in
     let f = kept (start (c .before)) in
     let l = c .before .before .before .loop in
     let re = c .before .tile-end .result in
-    counted-next (l .n) _ (ofTiles f (a .la) (a .le) (l .ra) re) (ofTile f (a .la) (a .le) re (a .rend)) (l .inv .3) (first (c .before)) (c .tile-counts .ensures)
+    counted-next (l .n) _ (ofTilePair f (a .la) (a .le) (l .ra) re) (ofTileLeaf f (a .la) (a .le) re (a .rend)) (l .inv .3) (first (c .before)) (c .tile-counts .ensures)
 
 add-n : tie.Need-add-n Inv-loop μ-loop
 add-n c = omega (arith, left c, c .before .before .before .loop .inv .4)

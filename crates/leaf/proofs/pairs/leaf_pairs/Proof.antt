@@ -5,7 +5,7 @@ use Prim.Native.Nat.{ℕ, _+_, _-_, _≤_, min}
 use native.Mathlib.Nat.{le-refl}
 use native.Mathlib.Omega.{arith}
 use Rattle.written.specs.RadiusWalk.{Found}
-use Rattle.leaf.specs.Kept.{keeps, ofTile, ofLeaves}
+use Rattle.leaf.specs.Kept.{keeps, ofTileLeaf, ofLeaves}
 use Rattle.leaf.specs.Lent.{LeafPair}
 use Rattle.leaf.proofs.Parts.{left-part}
 use Rattle.leaf.proofs.Remaining.{Remaining, all-left, none-left, next-countable, next-left}
@@ -31,7 +31,7 @@ abbrev kept : tie.After-tile-end Inv-loop μ-loop → ℕ → ℕ → List Found
 kept c = let a = start c .args in keeps (a .k) (a .radius) (a .under) (a .litems .now) (a .lcoords .now) (a .ritems .now) (a .rcoords .now)
 
 abbrev here : tie.After-tile-end Inv-loop μ-loop → List Found
-here c = let a = start c .args in ofTile (kept c) (c .before .before .loop .la) (c .tile-end .result) (a .rs) (a .rend)
+here c = let a = start c .args in ofTileLeaf (kept c) (c .before .before .loop .la) (c .tile-end .result) (a .rs) (a .rend)
 
 abbrev after : tie.After-tile-end Inv-loop μ-loop → List Found
 after c = let a = start c .args in ofLeaves (kept c) (c .tile-end .result) (a .lend) (a .rs) (a .rend)
@@ -41,7 +41,7 @@ first c =
     let a = start c .args in
     let f = kept c in
     let x = c .before .before .loop .la in
-    subst (λ (le : ℕ). ofLeaves f x (a .lend) (a .rs) (a .rend) ≡ ofTile f x le (a .rs) (a .rend) ++ ofLeaves f le (a .lend) (a .rs) (a .rend)) (sym (c .tile-end .ensures)) (leaf-next f x (a .lend) (a .rs) (a .rend) (c .before .loop-test .taken))
+    subst (λ (le : ℕ). ofLeaves f x (a .lend) (a .rs) (a .rend) ≡ ofTileLeaf f x le (a .rs) (a .rend) ++ ofLeaves f le (a .lend) (a .rs) (a .rend)) (sym (c .tile-end .ensures)) (leaf-next f x (a .lend) (a .rs) (a .rend) (c .before .loop-test .taken))
 
 loop-holds : tie.Need-loop-holds Inv-loop μ-loop
 loop-holds c =

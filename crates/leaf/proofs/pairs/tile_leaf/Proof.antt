@@ -5,7 +5,7 @@ use Prim.Native.Nat.{ℕ, _+_, _-_, _≤_, min}
 use native.Mathlib.Nat.{le-refl}
 use native.Mathlib.Omega.{arith}
 use Rattle.written.specs.RadiusWalk.{Found}
-use Rattle.leaf.specs.Kept.{keeps, ofTiles, ofTile}
+use Rattle.leaf.specs.Kept.{keeps, ofTilePair, ofTileLeaf}
 use Rattle.leaf.specs.Lent.{LeafPair}
 use Rattle.leaf.proofs.Parts.{right-part}
 use Rattle.leaf.proofs.Remaining.{Remaining, all-left, none-left, next-countable, next-left}
@@ -17,7 +17,7 @@ use Rattle.leaf.proofs.pairs.tile_leaf.Tie as tie
 abbrev Inv-loop : tie.InvT-loop
 Inv-loop k radius under litems lcoords la le ritems rcoords rs rend found lout₀ rout₀ dout₀ n₀ ra₀ lout rout dout n ra =
     let f = keeps k radius under litems lcoords ritems rcoords in
-    (rs ≤ ra) × (ra ≤ rend) × LeafPair k litems lcoords la le ritems rcoords rs rend × Remaining found lout₀ rout₀ dout₀ (ofTile f la le rs rend) n lout rout dout (ofTile f la le ra rend)
+    (rs ≤ ra) × (ra ≤ rend) × LeafPair k litems lcoords la le ritems rcoords rs rend × Remaining found lout₀ rout₀ dout₀ (ofTileLeaf f la le rs rend) n lout rout dout (ofTileLeaf f la le ra rend)
 
 abbrev μ-loop : tie.MeasureT-loop
 μ-loop k radius under litems lcoords la le ritems rcoords rs rend found lout₀ rout₀ dout₀ n₀ ra₀ lout rout dout n ra = rend - ra
@@ -31,17 +31,17 @@ abbrev kept : tie.After-tile-end Inv-loop μ-loop → ℕ → ℕ → List Found
 kept c = let a = start c .args in keeps (a .k) (a .radius) (a .under) (a .litems .now) (a .lcoords .now) (a .ritems .now) (a .rcoords .now)
 
 abbrev here : tie.After-tile-end Inv-loop μ-loop → List Found
-here c = let a = start c .args in ofTiles (kept c) (a .la) (a .le) (c .before .before .loop .ra) (c .tile-end .result)
+here c = let a = start c .args in ofTilePair (kept c) (a .la) (a .le) (c .before .before .loop .ra) (c .tile-end .result)
 
 abbrev after : tie.After-tile-end Inv-loop μ-loop → List Found
-after c = let a = start c .args in ofTile (kept c) (a .la) (a .le) (c .tile-end .result) (a .rend)
+after c = let a = start c .args in ofTileLeaf (kept c) (a .la) (a .le) (c .tile-end .result) (a .rend)
 
-first : (c : tie.After-tile-end Inv-loop μ-loop) → let a = start c .args in ofTile (kept c) (a .la) (a .le) (c .before .before .loop .ra) (a .rend) ≡ here c ++ after c
+first : (c : tie.After-tile-end Inv-loop μ-loop) → let a = start c .args in ofTileLeaf (kept c) (a .la) (a .le) (c .before .before .loop .ra) (a .rend) ≡ here c ++ after c
 first c =
     let a = start c .args in
     let f = kept c in
     let x = c .before .before .loop .ra in
-    subst (λ (re : ℕ). ofTile f (a .la) (a .le) x (a .rend) ≡ ofTiles f (a .la) (a .le) x re ++ ofTile f (a .la) (a .le) re (a .rend)) (sym (c .tile-end .ensures)) (tile-next f (a .la) (a .le) x (a .rend) (c .before .loop-test .taken))
+    subst (λ (re : ℕ). ofTileLeaf f (a .la) (a .le) x (a .rend) ≡ ofTilePair f (a .la) (a .le) x re ++ ofTileLeaf f (a .la) (a .le) re (a .rend)) (sym (c .tile-end .ensures)) (tile-next f (a .la) (a .le) x (a .rend) (c .before .loop-test .taken))
 
 loop-holds : tie.Need-loop-holds Inv-loop μ-loop
 loop-holds c =

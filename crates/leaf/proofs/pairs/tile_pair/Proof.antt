@@ -3,7 +3,7 @@ use Prim.Native.Nat.{suc, _-_, _≤_}
 use native.Mathlib.Nat.{le-refl}
 use native.Mathlib.Numerals.{add-one}
 use native.Mathlib.Omega.{arith}
-use Rattle.leaf.specs.Kept.{keeps, ofPoint, ofTiles}
+use Rattle.leaf.specs.Kept.{keeps, ofPoint, ofTilePair}
 use Rattle.leaf.specs.Lent.{TilePair}
 use Rattle.leaf.specs.Sums.{Fresh}
 use Rattle.leaf.proofs.Parts.{point-tile, fresh-row}
@@ -16,7 +16,7 @@ use Rattle.leaf.proofs.pairs.tile_pair.Tie as tie
 abbrev Inv-loop : tie.InvT-loop
 Inv-loop k radius under litems lcoords la le ritems rcoords ra re found lout₀ rout₀ dout₀ sums₀ dists₀ places₀ n₀ p₀ lout rout dout sums dists places n p =
     let f = keeps k radius under litems lcoords ritems rcoords in
-    (la ≤ p) × (p ≤ le) × TilePair k litems lcoords la le ritems rcoords ra re × Fresh k sums × Remaining found lout₀ rout₀ dout₀ (ofTiles f la le ra re) n lout rout dout (ofTiles f p le ra re)
+    (la ≤ p) × (p ≤ le) × TilePair k litems lcoords la le ritems rcoords ra re × Fresh k sums × Remaining found lout₀ rout₀ dout₀ (ofTilePair f la le ra re) n lout rout dout (ofTilePair f p le ra re)
 
 abbrev μ-loop : tie.MeasureT-loop
 μ-loop k radius under litems lcoords la le ritems rcoords ra re found lout₀ rout₀ dout₀ sums₀ dists₀ places₀ n₀ p₀ lout rout dout sums dists places n p = le - p
@@ -32,7 +32,7 @@ point-tile-requires c κs =
     let u = c .before .before .before .before .before .before .before .loop in
     let f = keeps (a .k) (a .radius) (a .under) (a .litems .now) (a .lcoords .now) (a .ritems .now) (a .rcoords .now) in
     let more = c .before .before .before .before .before .before .loop-test .taken in
-    (point-tile (u .inv .2) (u .inv .0) more (u .inv .3), (u .inv .4 .same, next-countable (u .inv .4) (ofPoint f (u .p) (a .ra) (a .re)) (ofTiles f (suc (u .p)) (a .le) (a .ra) (a .re)) (point-next f (u .p) (a .le) (a .ra) (a .re) more)))
+    (point-tile (u .inv .2) (u .inv .0) more (u .inv .3), (u .inv .4 .same, next-countable (u .inv .4) (ofPoint f (u .p) (a .ra) (a .re)) (ofTilePair f (suc (u .p)) (a .le) (a .ra) (a .re)) (point-next f (u .p) (a .le) (a .ra) (a .re) more)))
 
 add-p : tie.Need-add-p Inv-loop μ-loop
 add-p c = search needs
@@ -46,7 +46,7 @@ loop-again c =
     let u = c .before .before .before .before .before .before .before .before .before .before .before .before .before .before .loop in
     let call = c .before .before .before .before .before .before .point-tile in
     let f = keeps (a .k) (a .radius) (a .under) (a .litems .now) (a .lcoords .now) (a .ritems .now) (a .rcoords .now) in
-    (omega arith, omega arith, u .inv .2, call .ensures .1, rw (add-one (u .p)) (next-left (u .inv .4) (ofPoint f (u .p) (a .ra) (a .re)) (ofTiles f (suc (u .p)) (a .le) (a .ra) (a .re)) (point-next f (u .p) (a .le) (a .ra) (a .re) (c .before .before .before .before .before .before .before .before .before .before .before .before .before .loop-test .taken)) (omega (arith, call .kept)) (omega (arith, call .kept)) (omega (arith, call .kept)) (call .ensures .0)))
+    (omega arith, omega arith, u .inv .2, call .ensures .1, rw (add-one (u .p)) (next-left (u .inv .4) (ofPoint f (u .p) (a .ra) (a .re)) (ofTilePair f (suc (u .p)) (a .le) (a .ra) (a .re)) (point-next f (u .p) (a .le) (a .ra) (a .re) (c .before .before .before .before .before .before .before .before .before .before .before .before .before .loop-test .taken)) (omega (arith, call .kept)) (omega (arith, call .kept)) (omega (arith, call .kept)) (call .ensures .0)))
 
 same-length : tie.Need-same-length Inv-loop μ-loop
 same-length c = search needs
