@@ -114,84 +114,71 @@ pub const NO_LEAF_PAIR: u64 = u64::MAX;
 // SAFETY of every call below: pointers and lengths are those of slices, and
 // the library tests the other arguments itself.
 
+/// Calls a leaf function: what comes first, both leaves, what comes last.
+macro_rules! on_leaves {
+    ($call:path, ($($first:expr),*), $l:expr, $r:expr, ($($last:expr),*)) => {
+        unsafe {
+            $call(
+                $($first,)*
+                $l.items.as_ptr(),
+                $l.items.len(),
+                $l.coords.as_ptr(),
+                $l.coords.len(),
+                $l.start,
+                $l.end,
+                $r.items.as_ptr(),
+                $r.items.len(),
+                $r.coords.as_ptr(),
+                $r.coords.len(),
+                $r.start,
+                $r.end,
+                $($last),*
+            )
+        }
+    };
+}
+
 /// Pairs found; the first that fit are stored.
 #[inline(always)]
 pub fn leaf_pairs(k: u32, radius: f64, under: bool, l: Leaf, r: Leaf, out: Out) -> u64 {
-    unsafe {
-        c::oul_leaf_pairs(
-            k,
-            radius,
-            under,
-            l.items.as_ptr(),
-            l.items.len(),
-            l.coords.as_ptr(),
-            l.coords.len(),
-            l.start,
-            l.end,
-            r.items.as_ptr(),
-            r.items.len(),
-            r.coords.as_ptr(),
-            r.coords.len(),
-            r.start,
-            r.end,
-            out.left.as_mut_ptr(),
-            out.left.len(),
-            out.right.as_mut_ptr(),
-            out.right.len(),
-            out.distance.as_mut_ptr(),
-            out.distance.len(),
+    let (left, right, distance) = (out.left, out.right, out.distance);
+    on_leaves!(
+        c::oul_leaf_pairs,
+        (k, radius, under),
+        l,
+        r,
+        (
+            left.as_mut_ptr(),
+            left.len(),
+            right.as_mut_ptr(),
+            right.len(),
+            distance.as_mut_ptr(),
+            distance.len()
         )
-    }
+    )
 }
 
 #[inline(always)]
 pub fn leaf_counts(k: u32, radius: f64, under: bool, l: Leaf, r: Leaf) -> u64 {
-    unsafe {
-        c::oul_leaf_counts(
-            k,
-            radius,
-            under,
-            l.items.as_ptr(),
-            l.items.len(),
-            l.coords.as_ptr(),
-            l.coords.len(),
-            l.start,
-            l.end,
-            r.items.as_ptr(),
-            r.items.len(),
-            r.coords.as_ptr(),
-            r.coords.len(),
-            r.start,
-            r.end,
-        )
-    }
+    on_leaves!(c::oul_leaf_counts, (k, radius, under), l, r, ())
 }
 
 /// True when done, false when the arguments are no leaf pair.
 #[inline(always)]
 pub fn update_leaf(k: u32, l: Leaf, r: Leaf, items: &mut [u32], dists: &mut [f64]) -> bool {
-    let done = unsafe {
-        c::oul_update_leaf(
-            k,
-            l.items.as_ptr(),
-            l.items.len(),
-            l.coords.as_ptr(),
-            l.coords.len(),
-            l.start,
-            l.end,
-            r.items.as_ptr(),
-            r.items.len(),
-            r.coords.as_ptr(),
-            r.coords.len(),
-            r.start,
-            r.end,
-            items.as_mut_ptr(),
-            items.len(),
-            dists.as_mut_ptr(),
-            dists.len(),
-        )
-    };
-    done == 1
+    let lent = (
+        items.as_mut_ptr(),
+        items.len(),
+        dists.as_mut_ptr(),
+        dists.len(),
+    );
+    on_leaves!(
+        c::oul_update_leaf,
+        (k),
+        l,
+        r,
+        (lent.0, lent.1, lent.2, lent.3)
+    ) == 1
 }
 
 /// The distance of place `p` on the left and place `q` on the right.
