@@ -22,7 +22,7 @@ pub fn passes(distance: f64, radius: f64, under: bool) -> u64
 }
 
 // The last axis, and how many pass.
-pub fn passing(sums: &[f64; 32], q: f64, column: &[f64], radius: f64, under: bool) -> u64
+fn passing(sums: &[f64; 32], q: f64, column: &[f64], radius: f64, under: bool) -> u64
     requires { ⌜ length (now column) ≤ 32 ⌝ }
     ensures { λ r. ⌜ r ≡ hits (passingOf (edgeOf under) radius (reached (now (sums .entry)) q (now (column .entry)))) (length (now (column .entry))) ⌝ }
 {

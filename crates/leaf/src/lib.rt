@@ -1,7 +1,7 @@
 // The loops over two leaves: left tiles of at most 32 places, within each the right tiles, then left points, then right points (kiddo: leaf.rs, nearest.rs `update_leaf`).
-pub mod axes;
+mod axes;
 pub mod counts;
 pub mod nearest;
 pub mod pairs;
-pub mod point;
-pub mod rooms;
+mod point;
+mod rooms;

@@ -7,9 +7,9 @@ ghost use Rattle.written.specs.Check.{axesOk, sizesOk, lengthsOk, coordsOk, ref
 ghost use Rattle.tree.specs.Lent.{treeOf, Sized};
 use cursor::Cursor;
 
-pub mod order;
-pub mod pivots;
-pub mod starts;
+mod order;
+mod pivots;
+mod starts;
 
 // 1: K is 1 to 4.
 fn axes_ok(k: u32) -> bool
