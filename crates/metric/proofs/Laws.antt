@@ -7,9 +7,10 @@ use Prim.Native.Nat.{ℕ, zero, suc, _+_, _*_, _≤_, _<_}
 use native.Mathlib.Nat.{zero-add, mul-le-mul-right, suc-mul, eq-or-lt-of-le, le-of-suc-le-suc, not-suc-le-zero}
 use native.Mathlib.Omega.{arith}
 use lib.ListN.{length, getD}
-use lib.Ieee.{Float, nan, inf, binary64}
+use lib.Ieee.{Float, nan, inf, fin, eq, binary64}
 use Rattle.rounding.specs.Bounds.{reach1, bounded, everyAxis}
 use Rattle.rounding.specs.Distance.{summed}
+use Rattle.written.specs.Check.{isTop}
 use Rattle.written.specs.Boxes.{sides, upper}
 use Rattle.metric.specs.Flat.{boxesOf}
 use Rattle.metric.specs.Lent.{HoldsPlace}
@@ -57,3 +58,11 @@ fails test (suc k) d l h = elim (eq-or-lt-of-le (le-of-suc-le-suc l)) [
 -- one axis more that passes
 pub holds-next : (test : ℕ → Bool) (d : ℕ) → everyAxis test d ≡ true → test d ≡ true → everyAxis test (suc d) ≡ true
 holds-next test d h k = rw (h, k)
+
+-- ---- comparing with +inf
+pub top-is : (x : Float) → eq x (inf false) ≡ isTop x
+unfolding eq
+top-is nan = refl
+top-is (inf true) = refl
+top-is (inf false) = refl
+top-is (fin s m e) = refl

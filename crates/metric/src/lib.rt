@@ -6,6 +6,7 @@ ghost use lib.Ieee.Scale.{finite as finiteNumber};
 ghost use Rattle.rounding.specs.Distance.{dist1, distance as distanceOfRows};
 ghost use Rattle.rounding.specs.Bounds.{gap1, reach1, bounded as boundedSides};
 ghost use Rattle.written.specs.Boxes.{everywhere as everywhereBoxes, loweredTo, raisedTo, lower as lowerBound, upper as upperBound, passes, beyond as beyondRadius};
+ghost use Rattle.written.specs.Check.{isTop};
 ghost use Rattle.metric.specs.Edges.{edgeOf};
 ghost use Rattle.metric.specs.Flat.{boxesOf};
 ghost use Rattle.metric.specs.Lent.{HoldsPlace, pointAt};
@@ -51,6 +52,13 @@ pub fn finite(x: f64) -> bool
     }
     let exponent = f64::to_bits(x) / 0x10_0000_0000_0000 % 2048;
     exponent != 2047
+}
+
+// Is +inf: a pivot with no far half.
+pub fn is_top(x: f64) -> bool
+    ensures { λ r. ⌜ r ≡ isTop x ⌝ }
+{
+    x == 1.0 / 0.0
 }
 
 // Both boxes, flat: the left side's axis d stands at d, the right side's at 4 + d.

@@ -1,16 +1,10 @@
 // Rule 7: no point of a node's left half is above its pivot, none of its right half below it, and under a pivot of +inf the right half holds none.
 ghost use mathlib.Core.Path.{_≡_};
 ghost use Prim.Native.Nat.{_<_};
-ghost use Rattle.written.specs.Check.{down, isTop};
+ghost use Rattle.written.specs.Check.{down};
 ghost use Rattle.cursor.specs.Held.{nodeOf};
 ghost use Rattle.tree.specs.Lent.{treeOf, Stands, noneAbove, noneBelow, halvesOk, orderAt};
 use cursor::Cursor;
-
-fn is_top(x: f64) -> bool
-    ensures { λ r. ⌜ r ≡ isTop x ⌝ }
-{
-    x == 1.0 / 0.0
-}
 
 fn none_above(part: &[f64], pivot: f64) -> bool
     ensures { λ r. ⌜ r ≡ noneAbove (now (part .entry)) pivot ⌝ }
@@ -48,7 +42,7 @@ fn halves_ok(left: &[f64], right: &[f64], pivot: f64) -> bool
     if !none_below(right, pivot) {
         return false;
     }
-    if is_top(pivot) {
+    if metric::is_top(pivot) {
         return right.len() == 0;
     }
     true

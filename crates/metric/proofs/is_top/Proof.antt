@@ -1,8 +1,8 @@
 -- 1.0 / 0.0 computes to +inf. Assumes nothing.
 use lib.Ieee.{div, ofBits}
-use Rattle.tree.proofs.Floats.{top-is}
-use Rattle.tree.proofs.order.is_top.Statement.{statement}
-use Rattle.tree.proofs.order.is_top.Tie as tie
+use Rattle.metric.proofs.Laws.{top-is}
+use Rattle.metric.proofs.is_top.Statement.{statement}
+use Rattle.metric.proofs.is_top.Tie as tie
 
 returns : tie.Need-returns
 unfolding div ofBits
