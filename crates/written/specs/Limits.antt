@@ -80,7 +80,7 @@ module _ (j : Trees) (ok : Accepts j) where
   small-right : (length (j .right .starts) ≤ 4097) × (places (j .right) ≤ 65536)
   small-right = let k = accepted-means (j .axes) (j .right) .0 (ok .1) rule₂ in (k .1, k .2)
 
-  levels-fit : stemLevels j ≤ 24
+  pub levels-fit : stemLevels j ≤ 24
   levels-fit =
       let l : leaves (j .left) ≤ 2 ^ 12 = omega (arith, small-left .0) in
       let r : leaves (j .right) ≤ 2 ^ 12 = omega (arith, small-right .0) in

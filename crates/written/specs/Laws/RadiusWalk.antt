@@ -182,7 +182,7 @@ module _ (j : Trees) where
         go true q = let e = shut-parts s (suc d) g x h q in (good-all d s g x h, e .0, e .1)
         go false q = (good-near d s g x h, good-far d s g x h, cut s (suc d) g x)
 
-    picked-rest : (s : NodePair) → (isLeaf (s .left) && isLeaf (s .right)) ≡ false → 0 < cursorOf (picked s) s .rest
+    pub picked-rest : (s : NodePair) → (isLeaf (s .left) && isLeaf (s .right)) ≡ false → 0 < cursorOf (picked s) s .rest
     picked-rest s e = go (isLeaf (s .left)) refl (isLeaf (s .right)) refl e
       where
         more : Bool

@@ -1,0 +1,5 @@
+pub mod Told
+pub mod Onward
+pub mod Unique
+pub mod Table
+pub mod Demands

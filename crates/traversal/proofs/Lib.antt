@@ -1,0 +1,12 @@
+pub mod Through
+pub mod Waits
+pub mod Pending
+pub mod Chosen
+pub mod Reading
+pub mod Lengths
+pub mod Going
+pub mod Visiting
+pub mod Taking
+pub mod Ended
+pub mod Bounded
+pub mod Sides
