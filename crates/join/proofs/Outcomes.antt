@@ -11,6 +11,7 @@ use Rattle.written.specs.Answers.{Answer, answered, refused, leftRefusal, right
 use Rattle.written.specs.Rules.{FirstBroken}
 use Rattle.written.specs.Checked.{refusal-is-first}
 use Rattle.written.specs.Calls.{TreeRefused, left-broken, right-broken}
+use Rattle.written.specs.Answered.{rooms-agree}
 use Rattle.written.specs.Laws.Checked.{on-refused}
 use Rattle.leaf.specs.Rooms.{SameRooms}
 use Rattle.traversal.specs.Lent.{roomsOf}
@@ -18,7 +19,7 @@ use Rattle.traversal.specs.Work.{Work, totalsHeld, workOf, walked}
 use Rattle.traversal.specs.declared.tally.Tally.{Tally}
 use Rattle.join.specs.declared.answer.Answer.{Answer as Held}
 use Rattle.join.specs.Told.{answerOf, withRooms, PairsTold, CountsTold}
-use Rattle.join.specs.Onward.{rooms-agree, pairs-differ, pairs-walk, countsWalked, counts-walk}
+use Rattle.join.specs.Onward.{pairs-differ, pairs-walk, countsWalked, counts-walk}
 
 -- ---- the check's two numbers, as the code holds them
 

@@ -17,12 +17,13 @@ use Rattle.written.specs.Calls.{TreeRefused, PairRoomsAgree}
 use Rattle.written.specs.Right.{found-is-rearrangement, count-is-its-length}
 use Rattle.written.specs.Accounted.{totals-add-up}
 use Rattle.written.specs.Limits.{visits-bounded, pairs-take-none-whole}
+use Rattle.written.specs.Answered.{rooms-agree}
 use Rattle.written.specs.Laws.Lists.{perm-length}
 use Rattle.written.specs.Laws.Tests.{fails, at-most, exceeds}
 use Rattle.written.specs.Laws.Checked.{by-trees}
 use Rattle.join.specs.declared.answer.Answer.{Answer as Held}
 use Rattle.join.specs.Told.{answerOf, Result, PairsTold, CountsTold}
-use Rattle.join.specs.Onward.{rooms-agree, pairsWalked, pairs-differ, pairs-walk, countsWalked, counts-walk}
+use Rattle.join.specs.Onward.{pairsWalked, pairs-differ, pairs-walk, countsWalked, counts-walk}
 
 -- ---- what each demand says
 

@@ -1,25 +1,13 @@
 -- How a call goes on where the check accepts both trees: what it answers and leaves in the rooms. Assumes nothing.
 use mathlib.Core.Path.{_≡_, _∙_}
-use mathlib.Core.Logic.{_↔_}
 use mathlib.Core.Bool.{true, false}
 use lib.ListN.{length}
-use lib.Dec.{eqb}
 use lib.Ieee.{Float}
 use Rattle.written.specs.Boxes.{Trees, Edge}
 use Rattle.written.specs.RadiusWalk.{found, count}
 use Rattle.written.specs.Totals.{walkTotals}
 use Rattle.written.specs.Answers.{Answer, answered, refused, Accepts, PairRooms, pairRoomsAgree, pairsStored, roomNumber, pairsIn, pairsCall, countsCall}
-use Rattle.written.specs.Calls.{PairRoomsAgree}
-use Rattle.written.specs.Laws.Tests.{both, equal}
 use Rattle.written.specs.Laws.Checked.{on-accepted}
-
--- the test of the rooms says that they agree
-pub rooms-agree : (b : PairRooms) → (pairRoomsAgree b ≡ true) ↔ PairRoomsAgree b
-rooms-agree b =
-    let e = equal (length (b .lefts)) (length (b .rights)) in
-    let f = equal (length (b .rights)) (length (b .distances)) in
-    let k = both (eqb (length (b .lefts)) (length (b .rights))) (eqb (length (b .rights)) (length (b .distances))) in
-    (λ h. (e .0 (k .0 h .0), f .0 (k .0 h .1)), λ h. k .1 (e .1 (h .0), f .1 (h .1)))
 
 module _ (j : Trees) (edge : Edge) (radius : Float) where
   abbrev pub pairsWalked : PairRooms → Answer × PairRooms

@@ -25,6 +25,14 @@ use Rattle.written.specs.Laws.Points.{both-hold}
 
 -- ---- pairs
 
+-- the test of rule 8 says that the rooms agree
+pub rooms-agree : (b : PairRooms) → (pairRoomsAgree b ≡ true) ↔ PairRoomsAgree b
+rooms-agree b =
+    let e = equal (length (b .lefts)) (length (b .rights)) in
+    let f = equal (length (b .rights)) (length (b .distances)) in
+    let k = both (eqb (length (b .lefts)) (length (b .rights))) (eqb (length (b .rights)) (length (b .distances))) in
+    (λ h. (e .0 (k .0 h .0), f .0 (k .0 h .1)), λ h. k .1 (e .1 (h .0), f .1 (h .1)))
+
 module _ (j : Trees) (edge : Edge) (radius : Float) (b : PairRooms) where
   -- what is found, and how the call goes on where both trees are accepted
   abbrev list : List Found
@@ -36,29 +44,22 @@ module _ (j : Trees) (edge : Edge) (radius : Float) (b : PairRooms) where
   abbrev pairsRefused : ℕ → ℕ → Answer × PairRooms
   pairsRefused n s = (refused n s, b)
 
-  pairs-agree : (pairRoomsAgree b ≡ true) ↔ PairRoomsAgree b
-  pairs-agree =
-      let e = equal (length (b .lefts)) (length (b .rights)) in
-      let f = equal (length (b .rights)) (length (b .distances)) in
-      let k = both (eqb (length (b .lefts)) (length (b .rights))) (eqb (length (b .rights)) (length (b .distances))) in
-      (λ h. (e .0 (k .0 h .0), f .0 (k .0 h .1)), λ h. k .1 (e .1 (h .0), f .1 (h .1)))
-
   pairs-differ : (PairRoomsAgree b → ⊥) → pairsRest ≡ (refused 8 0, b)
   unfolding pairsIn
-  pairs-differ n = rw (fails (pairRoomsAgree b) (λ e. n (pairs-agree .0 e))) refl
+  pairs-differ n = rw (fails (pairRoomsAgree b) (λ e. n (rooms-agree b .0 e))) refl
 
   pairs-all : PairRoomsAgree b → length list ≤ length (b .distances) → pairsRest ≡ (answered 0 (length list) (walkTotals j edge radius false), allStored list b)
   unfolding pairsIn
   pairs-all a h =
       rw
-      (pairs-agree .1 a, at-most (length list) (length (b .distances)) .1 h, stored-all (λ x. x .left) list (b .lefts) (omega arith), stored-all (λ x. x .right) list (b .rights) (omega arith), stored-all (λ x. x .distance) list (b .distances) h)
+      (rooms-agree b .1 a, at-most (length list) (length (b .distances)) .1 h, stored-all (λ x. x .left) list (b .lefts) (omega arith), stored-all (λ x. x .right) list (b .rights) (omega arith), stored-all (λ x. x .distance) list (b .distances) h)
       refl
 
   pairs-first : PairRoomsAgree b → length (b .distances) < length list → pairsRest ≡ (answered 9 (length list) (walkTotals j edge radius false), firstStored list b)
   unfolding pairsIn
   pairs-first a h =
       rw
-      (pairs-agree .1 a, exceeds (length list) (length (b .distances)) h, stored-first (λ x. x .left) list (b .lefts) (omega arith), stored-first (λ x. x .right) list (b .rights) (omega arith), stored-first (λ x. x .distance) list (b .distances) (omega arith))
+      (rooms-agree b .1 a, exceeds (length list) (length (b .distances)) h, stored-first (λ x. x .left) list (b .lefts) (omega arith), stored-first (λ x. x .right) list (b .rights) (omega arith), stored-first (λ x. x .distance) list (b .distances) (omega arith))
       refl
 
   pairs-only : {x : Answer × PairRooms} → PairsAnswer j edge radius b x → x ≡ pairsCall j edge radius b
@@ -72,11 +73,11 @@ module _ (j : Trees) (edge : Edge) (radius : Float) (b : PairRooms) where
       by-trees j pairsRefused pairsRest (PairsAnswer j edge radius b) (λ n s t. pairs-tree-refused t) (λ ok. rooms ok (pairRoomsAgree b) refl (decLt (length (b .distances)) (length list)))
     where
       rooms : Accepts j → (x : Bool) → pairRoomsAgree b ≡ x → Dec (length (b .distances) < length list) → PairsAnswer j edge radius b pairsRest
-      rooms ok false e d = let n : PairRoomsAgree b → ⊥ = λ a. not-both (pairs-agree .1 a) e in subst (PairsAnswer j edge radius b) (sym (pairs-differ n)) (pairs-rooms-differ ok n)
-      rooms ok true e (yes h) = subst (PairsAnswer j edge radius b) (sym (pairs-first (pairs-agree .0 e) h)) (pairs-some-fit ok (pairs-agree .0 e) h)
+      rooms ok false e d = let n : PairRoomsAgree b → ⊥ = λ a. not-both (rooms-agree b .1 a) e in subst (PairsAnswer j edge radius b) (sym (pairs-differ n)) (pairs-rooms-differ ok n)
+      rooms ok true e (yes h) = subst (PairsAnswer j edge radius b) (sym (pairs-first (rooms-agree b .0 e) h)) (pairs-some-fit ok (rooms-agree b .0 e) h)
       rooms ok true e (no n) =
           let h : length list ≤ length (b .distances) = omega arith in
-          subst (PairsAnswer j edge radius b) (sym (pairs-all (pairs-agree .0 e) h)) (pairs-all-fit ok (pairs-agree .0 e) h)
+          subst (PairsAnswer j edge radius b) (sym (pairs-all (rooms-agree b .0 e) h)) (pairs-all-fit ok (rooms-agree b .0 e) h)
 
   -- what the table permits is the computed answer, with its buffers
   pub pairs-mean : (x : Answer × PairRooms) → PairsAnswer j edge radius b x ↔ (x ≡ pairsCall j edge radius b)
