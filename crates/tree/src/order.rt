@@ -1,35 +1,42 @@
 // Rule 7: no point of a node's left half is above its pivot, none of its right half below it, and under a pivot of +inf the right half holds none.
 ghost use mathlib.Core.Path.{_≡_};
+ghost use mathlib.Core.Bool.{cond};
 ghost use Prim.Native.Nat.{_<_};
+ghost use lib.Ieee.{lt};
 ghost use Rattle.written.specs.Check.{down};
 ghost use Rattle.cursor.specs.Held.{nodeOf};
 ghost use Rattle.tree.specs.Lent.{treeOf, Stands, noneAbove, noneBelow, halvesOk, orderAt};
 use cursor::Cursor;
 
+// 1 where x is below y, else 0: a number, so that the loops below have no branch.
+fn below(x: f64, y: f64) -> u64
+    ensures { λ r. ⌜ r ≡ cond (lt x y) 1 0 ⌝ }
+{
+    if x < y { 1 } else { 0 }
+}
+
 fn none_above(part: &[f64], pivot: f64) -> bool
     ensures { λ r. ⌜ r ≡ noneAbove (now (part .entry)) pivot ⌝ }
 {
+    let mut n = 0;
     let mut i = 0;
     while i < part.len() {
-        if pivot < part[i] {
-            return false;
-        }
+        n = n + below(pivot, part[i]);
         i += 1;
     }
-    true
+    n == 0
 }
 
 fn none_below(part: &[f64], pivot: f64) -> bool
     ensures { λ r. ⌜ r ≡ noneBelow (now (part .entry)) pivot ⌝ }
 {
+    let mut n = 0;
     let mut i = 0;
     while i < part.len() {
-        if part[i] < pivot {
-            return false;
-        }
+        n = n + below(part[i], pivot);
         i += 1;
     }
-    true
+    n == 0
 }
 
 // The node's own pivot, against the coordinates of its two halves on its axis.
