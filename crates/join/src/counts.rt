@@ -1,5 +1,4 @@
 // How many pairs are within a radius.
-ghost use mathlib.Core.Path.{_≡_};
 ghost use Rattle.written.specs.Boxes.{upTo, under};
 ghost use Rattle.metric.specs.Edges.{edgeOf};
 ghost use Rattle.traversal.specs.Lent.{treesOf};

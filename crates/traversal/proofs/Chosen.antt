@@ -1,18 +1,17 @@
 -- What the code chooses to do at a node pair is what the written walk does there. Assumes nothing.
-use mathlib.Core.Path.{_≡_, refl, sym, ap, _∙_}
-use mathlib.Core.Bool.{Bool, true, false, _&&_, cond, true≢false}
+use mathlib.Core.Path.{_≡_, refl, ap, _∙_}
+use mathlib.Core.Bool.{Bool, true, false, _&&_, cond}
 use Prim.Native.Nat.{ℕ}
 use native.Mathlib.Omega.{arith}
 use lib.Ieee.{Float}
 use Rattle.written.specs.LentTree.{isLeaf}
 use Rattle.written.specs.Boxes.{Trees, Edge}
-use Rattle.written.specs.Visits.{Fate, measured, ruled, whole, Step, ends}
-use Rattle.written.specs.NodePairs.{NodePair, leftSide, rightSide, splitsRight, picked, split, descend, visit}
+use Rattle.written.specs.Visits.{measured, ruled, whole, ends}
+use Rattle.written.specs.NodePairs.{NodePair, leftSide, rightSide, splitsRight, picked, split, visit}
 use Rattle.written.specs.RadiusWalk.{ruledOut, takenWhole, step}
 use Rattle.cursor.specs.Held.{sideOf}
 use Rattle.traversal.specs.declared.moves.Fate.{Fate as Held}
 use Rattle.traversal.specs.declared.moves.Fate.the-variants.{Measured, RuledOut, Whole}
-use Rattle.traversal.specs.declared.moves.Move.{Move}
 use Rattle.traversal.specs.declared.moves.Move.the-variants.{End, Split}
 use Rattle.traversal.specs.Moves.{fateOf, moveBy, moveOf}
 use Rattle.traversal.specs.Ending.{MayEnd}

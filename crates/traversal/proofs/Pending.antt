@@ -1,14 +1,14 @@
 -- The walk from a node pair on, and what is left to do for the entries that wait. Assumes nothing.
-use mathlib.Core.Path.{_≡_, refl, sym, ap, _∙_, subst}
+use mathlib.Core.Path.{_≡_, refl, ap, _∙_, subst}
 use mathlib.Core.List.{List, [], _∷_}
 use mathlib.Core.Bool.{Bool, true, false}
-use Prim.Native.Nat.{ℕ, zero, suc, _+_, _≤_, _<_}
+use Prim.Native.Nat.{ℕ, zero, suc, _+_, _<_}
 use native.Mathlib.Omega.{arith}
 use lib.ListN.{getD, set}
 use lib.Seq.{set-set, set-getD}
 use lib.Ieee.{Float, nan}
-use Rattle.written.specs.Boxes.{Trees, Boxes, Edge, loweredTo, raisedTo, lowered, raised}
-use Rattle.written.specs.Visits.{Fate, Step, ends, goes, forks, runs, run, stop, one, two}
+use Rattle.written.specs.Boxes.{Trees, Boxes, Edge, raisedTo, lowered, raised}
+use Rattle.written.specs.Visits.{Fate, Step, ends, goes, forks, runs, run, stop}
 use Rattle.written.specs.NodePairs.{NodePair, rootPair, corner, leftPart, rightPart}
 use Rattle.written.specs.RadiusWalk.{step, walk}
 use Rattle.written.specs.Laws.Walks.{Onward}

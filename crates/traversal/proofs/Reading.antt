@@ -3,12 +3,11 @@ use mathlib.Core.Path.{_≡_, refl}
 use mathlib.Core.List.{[]}
 use Prim.Native.Nat.{ℕ, _≤_, _<_}
 use native.Mathlib.Omega.{arith}
-use lib.ListN.{length}
-use Rattle.written.specs.LentTree.{places, start, Cursor, Node}
+use Rattle.written.specs.LentTree.{start, Cursor, Node}
 use Rattle.written.specs.Check.{Rule, rule₁, rule₂, rule₃, rule₄}
 use Rattle.written.specs.Rules.{Kept}
 use Rattle.written.specs.Checked.{accepted-means}
-use Rattle.written.specs.Boxes.{Trees, Boxes}
+use Rattle.written.specs.Boxes.{Trees}
 use Rattle.written.specs.NodePairs.{Side, leftSide, rightSide, treeOf, cursorOf}
 use Rattle.written.specs.Answers.{Accepts}
 use Rattle.written.specs.Laws.LentTree.{On}

@@ -1,43 +1,23 @@
 -- A turn of the loop that takes an entry keeps the invariant; when nothing waits, the walk is over. Assumes nothing.
-use mathlib.Core.Path.{_≡_, refl, sym, ap, ap₂, _∙_, subst, subst₂}
-use mathlib.Core.List.{List, [], _∷_}
+use mathlib.Core.Path.{_≡_, refl, sym, ap, _∙_, subst, subst₂}
+use mathlib.Core.List.{List, _∷_}
 use mathlib.Core.Bool.{Bool, true, false}
-use Prim.Native.Nat.{ℕ, zero, suc, _+_, _-_, _≤_, _<_}
-use native.Mathlib.Nat.{mod-lt}
+use Prim.Native.Nat.{ℕ, _+_, _-_, _<_}
 use native.Mathlib.Omega.{arith}
-use lib.ListN.{length, getD, set, length-set}
-use lib.Ieee.{Float, nan}
-use Rattle.written.specs.LentTree.{axis, near, far}
-use Rattle.written.specs.Check.{isTop, rule₁}
-use Rattle.written.specs.Boxes.{Trees, Boxes, Edge, everywhere, loweredTo, raisedTo, lowered, raised}
-use Rattle.written.specs.Visits.{Fate, Step, ends, goes, forks}
-use Rattle.written.specs.NodePairs.{Side, leftSide, rightSide, NodePair, onSide, treeOf, cursorOf, corner, moved, rootPair, stemLevels, picked, cutAt, cutBy, nearHalf, farHalf, halves, split}
-use Rattle.written.specs.RadiusWalk.{step}
+use lib.ListN.{set, length-set}
+use lib.Ieee.{Float}
+use Rattle.written.specs.LentTree.{axis}
+use Rattle.written.specs.Boxes.{Trees, Boxes, Edge, raisedTo}
 use Rattle.written.specs.Answers.{Accepts, PairRooms}
-use Rattle.written.specs.Laws.Boxes.{Sized}
-use Rattle.written.specs.Laws.RadiusWalk.{Good, good-start, picked-rest, law-descend}
-use Rattle.written.specs.Laws.Accepted.{both-accepted}
-use Rattle.written.specs.Limits.{levels-fit}
 use Rattle.metric.specs.Flat.{boxesOf}
-use Rattle.cursor.specs.Held.{nodeOf, rootOver, sideOf}
 use Rattle.traversal.specs.declared.nodes.Nodes.{Nodes}
-use Rattle.traversal.specs.declared.descent.Descent.{Descent}
-use Rattle.traversal.specs.declared.moves.Fate.{Fate as Fated}
-use Rattle.traversal.specs.declared.moves.Move.{Move}
-use Rattle.traversal.specs.declared.moves.Move.the-variants.{End, Split}
 use Rattle.traversal.specs.declared.waiting.Waiting.{Waiting}
 use Rattle.traversal.specs.declared.waiting.Waiting.the-variants.{Far, Restore}
 use Rattle.traversal.specs.declared.waiting.Popped.the-variants.{Entry, Nothing}
-use Rattle.traversal.specs.Lent.{stemless}
-use Rattle.traversal.specs.Standing.{pairAt, chosen, SplitsAt, Descended}
-use Rattle.traversal.specs.Moves.{fateOf, moveOf}
-use Rattle.traversal.specs.Work.{Work, after, walked}
-use Rattle.traversal.proofs.Ended.{after-same}
-use Rattle.traversal.proofs.Through.{examined, nothing, walk-done}
+use Rattle.traversal.specs.Standing.{pairAt}
+use Rattle.traversal.specs.Work.{Work, walked}
 use Rattle.traversal.proofs.Waits.{view, view-push, view-length, taken, none-taken, some-taken}
-use Rattle.traversal.proofs.Pending.{levelsLeft, slotOf, within-boxes, put, put-back, put-raised, put-put, walkFrom, from-root, from-end, OnwardFrom, Alone, Both, from-goes, from-forks, resume, resume-none, ahead}
-use Rattle.traversal.proofs.Chosen.{EndsWith, chosen-end, SplitsOn, chosen-split}
-use Rattle.traversal.proofs.Reading.{keeps, splits-there}
+use Rattle.traversal.proofs.Pending.{slotOf, within-boxes, put, put-put, walkFrom, resume, resume-none}
 use Rattle.traversal.proofs.Going.{Sound, Going, room}
 
 module _ (j : Trees) (edge : Edge) (radius : Float) (counting : Bool) (ok : Accepts j) {b₀ : PairRooms} {at : Nodes} {b : Boxes} {w : Work} {stack : List Waiting} {len : ℕ} where

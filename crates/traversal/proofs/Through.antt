@@ -1,8 +1,8 @@
 -- The visits of a walk as work done one after the other; what all of them have done is what the written walk finds, counts and totals. Assumes nothing.
 use mathlib.Core.Path.{_≡_, refl, sym, ap, _∙_}
-use mathlib.Core.List.{List, _++_}
+use mathlib.Core.List.{List}
 use mathlib.Core.Bool.{Bool, true, false}
-use Prim.Native.Nat.{ℕ, suc, _+_, _*_, _≤_}
+use Prim.Native.Nat.{ℕ, _+_, _*_}
 use native.Mathlib.Nat.{zero-add, add-assoc}
 use native.Mathlib.Omega.{arith}
 use lib.ListN.{length}
@@ -16,7 +16,7 @@ use Rattle.written.specs.Answers.{PairRooms, pairsStored}
 use Rattle.leaf.specs.Rooms.{Filling, filling, puts}
 use Rattle.leaf.specs.Stored.{puts-append, puts-found, all-stored}
 use Rattle.traversal.specs.declared.tally.Tally.{Tally}
-use Rattle.traversal.specs.Work.{Work, totalsHeld, workOf, visited, adding, finding, after, walked}
+use Rattle.traversal.specs.Work.{Work, totalsHeld, workOf, visited, adding, after, walked}
 
 -- one node pair more is examined
 abbrev pub examined : Work → Work

@@ -1,7 +1,6 @@
 -- What waits, as a list with the last entry first, and what is taken from it. Assumes nothing.
 use mathlib.Core.Path.{_≡_, refl, sym, ap, ap₂, _∙_}
 use mathlib.Core.List.{List, [], _∷_}
-use mathlib.Core.Bool.{cond}
 use Prim.Native.Nat.{ℕ, zero, suc, _+_, _-_, _≤_, _<_}
 use native.Mathlib.Numerals.{add-one}
 use native.Mathlib.Omega.{arith}
@@ -10,11 +9,8 @@ use lib.ListN.{length, getD, set}
 use lib.Seq.{getD-set-same, getD-set-other}
 use lib.Ieee.{nan}
 use Rattle.cursor.specs.declared.Cursor.{Cursor}
-use Rattle.cursor.specs.declared.StemIdx.{StemIdx}
-use Rattle.cursor.specs.declared.LeafIdx.{LeafIdx}
-use Rattle.traversal.specs.declared.nodes.Nodes.{Nodes}
 use Rattle.traversal.specs.declared.waiting.Waiting.{Waiting}
-use Rattle.traversal.specs.declared.waiting.Waiting.the-variants.{Far, Restore}
+use Rattle.traversal.specs.declared.waiting.Waiting.the-variants.{Far}
 use Rattle.traversal.specs.declared.waiting.Popped.{Popped}
 use Rattle.traversal.specs.declared.waiting.Popped.the-variants.{Entry, Nothing}
 use Rattle.traversal.specs.Popping.{poppedOf}

@@ -6,7 +6,7 @@ use lib.ListN.{length, getD}
 use lib.Ieee.{Float, nan}
 use Rattle.written.specs.LentTree.{Cursor, near, far, axis}
 use Rattle.written.specs.Boxes.{Boxes}
-use Rattle.written.specs.NodePairs.{NodePair, onSide, cursorOf, moved}
+use Rattle.written.specs.NodePairs.{NodePair, onSide, moved}
 use Rattle.cursor.specs.Held.{nodeOf, Splits, sideOf}
 use Rattle.traversal.specs.declared.nodes.Nodes.{Nodes}
 use Rattle.traversal.specs.declared.descent.Descent.{Descent}

@@ -1,9 +1,5 @@
 // One level down on one side: both halves, the axis, and the pivot between them. The nodes are put together once, since taking them apart and together again costs time.
-ghost use mathlib.Core.Path.{_≡_};
 ghost use Prim.Native.Nat.{_<_};
-ghost use lib.ListN.{length};
-ghost use Rattle.written.specs.NodePairs.{onSide};
-ghost use Rattle.cursor.specs.Held.{nodeOf, sideOf};
 ghost use Rattle.traversal.specs.Standing.{SplitsAt, Descended};
 use crate::nodes::Nodes;
 use crate::nodes::cursor_of;

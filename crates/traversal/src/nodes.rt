@@ -1,7 +1,7 @@
 // A node of each tree, and where a side's numbers stand in the boxes.
 ghost use mathlib.Core.Path.{_≡_};
 ghost use Prim.Native.Nat.{_+_, _-_, _*_, _<_, _≤_};
-ghost use lib.ListN.{length, getD};
+ghost use lib.ListN.{length};
 ghost use Rattle.written.specs.NodePairs.{onSide, corner};
 ghost use Rattle.cursor.specs.Held.{nodeOf, rootOver, sideOf};
 ghost use Rattle.traversal.specs.Standing.{Within, pointsOf};

@@ -1,17 +1,14 @@
 -- `walk` meets its contract: the loop's invariant is `Going`, with both trees accepted and the rooms as long as they were. Assumes nothing.
-use mathlib.Core.Path.{_≡_, refl, sym, ap, _∙_, subst}
-use mathlib.Core.List.{List}
-use mathlib.Core.Bool.{Bool, true, false, not}
-use Prim.Native.Nat.{ℕ, _+_, _*_, _-_, _≤_, _<_}
+use mathlib.Core.Path.{_≡_, refl, ap, _∙_}
+use mathlib.Core.Bool.{Bool, true, false}
+use Prim.Native.Nat.{ℕ, _+_, _*_, _-_, _<_}
 use native.Mathlib.Omega.{arith}
 use borrow.Author.Needs.{needs}
-use lib.ListN.{length}
-use lib.Ieee.{Float}
 use Rattle.written.specs.Boxes.{Trees}
 use Rattle.written.specs.Check.{rule₁, rule₂}
 use Rattle.written.specs.NodePairs.{leftSide, rightSide}
 use Rattle.written.specs.Totals.{Totals, walkTotals}
-use Rattle.written.specs.Answers.{Accepts, PairRooms}
+use Rattle.written.specs.Answers.{Accepts}
 use Rattle.written.specs.Laws.Tests.{refused, granted}
 use Rattle.metric.specs.Edges.{edgeOf}
 use Rattle.metric.specs.Flat.{boxesOf}
