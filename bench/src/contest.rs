@@ -1,10 +1,11 @@
 //! Two sides doing the same work, and how they are timed.
 
+use crate::options::Options;
 use crate::pool::Pool;
 use oracle::ours::{self, Out};
 use oracle::rng::Rng;
 use oracle::rust::{self, Answers, Buffers};
-use std::time::{Duration, Instant};
+use std::time::Instant;
 
 /// A pass of each side over the pool's entries, in the order given.
 pub trait Contest {
@@ -34,7 +35,7 @@ impl Times {
 
 /// Turns about, who begins changing each round, until the time is spent. Each
 /// round goes through the pool in an order of its own.
-pub fn race(contest: &mut impl Contest, budget: Duration, rng: &mut Rng) -> Times {
+pub fn race(contest: &mut impl Contest, options: &Options, rng: &mut Rng) -> Times {
     let mut order: Vec<usize> = (0..contest.entries()).collect();
     let mut best = Times {
         ours: f64::INFINITY,
@@ -43,7 +44,7 @@ pub fn race(contest: &mut impl Contest, budget: Duration, rng: &mut Rng) -> Time
     };
     let begin = Instant::now();
     let mut round = 0;
-    while round < 10 || begin.elapsed() < budget {
+    while round < options.rounds || begin.elapsed() < options.budget {
         rng.shuffle(&mut order);
         contest.reset();
         let (ours, rust) = if round % 2 == 0 {
@@ -67,22 +68,25 @@ fn timed(pass: impl FnOnce() -> u64, least: &mut f64) -> u64 {
     answer
 }
 
-/// Where one side stores pairs: emptied before each leaf pair.
-struct Stored {
+/// Where one side stores pairs: each leaf pair or join begins at the start.
+pub struct Stored {
     left: Vec<u32>,
     right: Vec<u32>,
     distance: Vec<f64>,
 }
 
 impl Stored {
-    fn new(room: usize) -> Self {
+    pub fn new(room: usize) -> Self {
         Stored {
             left: vec![0; room],
             right: vec![0; room],
             distance: vec![0.0; room],
         }
     }
-    fn pairs(&self, found: u64) -> impl Iterator<Item = (u32, u32, u64)> + '_ {
+    pub fn buffers(&mut self) -> (&mut [u32], &mut [u32], &mut [f64]) {
+        (&mut self.left, &mut self.right, &mut self.distance)
+    }
+    pub fn pairs(&self, found: u64) -> impl Iterator<Item = (u32, u32, u64)> + '_ {
         let place = |i: usize| (self.left[i], self.right[i], self.distance[i].to_bits());
         (0..found as usize).map(place)
     }

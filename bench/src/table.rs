@@ -42,7 +42,7 @@ pub fn all(options: &Options) -> Vec<Table> {
 /// Runs `f` some frames further down; a frame is no multiple of a cache line
 /// (80 bytes as compiled today).
 #[inline(never)]
-fn deeper(frames: usize, f: &mut dyn FnMut()) {
+pub fn deeper(frames: usize, f: &mut dyn FnMut()) {
     let frame = std::hint::black_box([frames; 2]);
     match frame[0] {
         0 => f(),
@@ -53,7 +53,7 @@ fn deeper(frames: usize, f: &mut dyn FnMut()) {
 }
 
 fn sweep(tables: &mut [Table; 3], options: &Options) {
-    for &k in &options.ks {
+    for &k in options.ks(&[1, 2, 3, 4]) {
         match k {
             1 => fill::<1>(tables, options),
             2 => fill::<2>(tables, options),
@@ -64,7 +64,7 @@ fn sweep(tables: &mut [Table; 3], options: &Options) {
 }
 
 fn fill<const K: usize>(tables: &mut [Table; 3], options: &Options) {
-    for &size in &options.sizes {
+    for &size in options.sizes(&[8, 16, 32, 100]) {
         let mut rng = Rng::new((K * 1000 + size) as u64);
         let pool = Pool::<K>::new(size, &mut rng);
         for table in tables.iter_mut().filter(|t| options.wants(t.title)) {
@@ -113,7 +113,7 @@ fn nearest<const K: usize>(pool: &Pool<K>, options: &Options, rng: &mut Rng) -> 
 }
 
 fn run(contest: &mut impl Contest, options: &Options, rng: &mut Rng) -> Times {
-    race(contest, options.budget, rng)
+    race(contest, options, rng)
 }
 
 impl Table {

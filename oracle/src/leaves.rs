@@ -1,10 +1,11 @@
 //! Leaf pairs: pairs, counts, nearest updates and single distances.
 
+use crate::lots::{items, leaf_size};
 use crate::points::{Kind, Source};
 use crate::report::{same, Report};
-use crate::rooms::Room;
+use crate::rooms::{Room, Stored};
 use oracle::api::{self, Pair, Tree};
-use oracle::ours::{self, Leaf, Out, NO_LEAF_PAIR};
+use oracle::ours::{self, Leaf, NO_LEAF_PAIR};
 use oracle::rng::Rng;
 
 /// One tree, and the leaf of it that is tried.
@@ -56,25 +57,6 @@ impl Side {
             end: self.starts[self.leaf + 1] as usize,
         }
     }
-}
-
-/// Sizes at the edges of tiles of 32 as often as all others together.
-fn leaf_size(rng: &mut Rng) -> u32 {
-    if rng.one_in(2) {
-        rng.pick(&[0, 1, 31, 32, 33, 63, 64, 65])
-    } else {
-        rng.below(101) as u32
-    }
-}
-
-/// Mostly each item once, so that an exchange of two shows.
-fn items(n: usize, rng: &mut Rng) -> Vec<u32> {
-    let few = rng.one_in(4);
-    let one = |i: usize| match few {
-        true => rng.pick(&[0, 1, 2, u32::MAX]),
-        false => i as u32 * 7 + 3,
-    };
-    (0..n).map(one).collect()
 }
 
 struct Case {
@@ -176,38 +158,6 @@ fn pairs(case: &Case, radius: f64, under: bool, report: &mut Report, rng: &mut R
             "radius {radius:e}, under {under}, room {room}: {found} found, {due} due, or others stored"
         ))
     });
-}
-
-/// The three buffers for pairs.
-struct Stored {
-    left: Room<u32>,
-    right: Room<u32>,
-    distance: Room<f64>,
-}
-
-impl Stored {
-    fn new(room: usize) -> Self {
-        Stored {
-            left: Room::filled(room, 0xdead_beef),
-            right: Room::filled(room, 0xfeed_f00d),
-            distance: Room::filled(room, 1e300),
-        }
-    }
-    fn lent(&mut self) -> Out<'_> {
-        Out {
-            left: self.left.lent(),
-            right: self.right.lent(),
-            distance: self.distance.lent(),
-        }
-    }
-    fn hold(&self, due: &[Pair]) -> bool {
-        self.left
-            .holds(due.iter().map(|pair| pair.0), |a, b| a == b)
-            && self
-                .right
-                .holds(due.iter().map(|pair| pair.1), |a, b| a == b)
-            && self.distance.holds(due.iter().map(|pair| pair.2), same)
-    }
 }
 
 fn room(due: usize, report: &mut Report, rng: &mut Rng) -> usize {

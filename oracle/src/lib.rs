@@ -1,9 +1,10 @@
 //! The Rust source of kiddo 6.3.0, compiled as it stands, over lent trees; and
-//! the Rattle library beside it. See README.md.
+//! the Rattle library's parts beside it. See README.md.
 //!
 //! [`rust`] calls the source with K and the edge as const generics, on trees
 //! prepared once: for timing. [`api`] takes them as values: for comparing.
-//! [`ours`] calls the Rattle library through its C interface.
+//! [`ours`] calls the Rattle library `beside` through its C interface; whole
+//! joins are called by ../bindings/rust.
 
 // The source's crates from the registry: `names.rs` has what it imports.
 extern crate self as aligned_vec;

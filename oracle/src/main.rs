@@ -1,5 +1,6 @@
 //! Compares the Rattle library with the Rust, bit for bit, on generated cases,
-//! and its tree check with a plain reading of rules 1 to 7.
+//! and what the Rust has not, the tree check and the totals, with plain readings
+//! of the scope paper.
 //!
 //!     cargo run --release -- [--seed N] [--percent N]
 //!
@@ -7,11 +8,18 @@
 //! status is 1 at any difference.
 
 mod bounds;
+mod cases;
+mod joins;
 mod leaves;
+mod lots;
 mod points;
+mod radii;
+mod refusals;
 mod report;
 mod rooms;
 mod rules;
+mod shapes;
+mod tally;
 mod trees;
 
 use oracle::rng::Rng;
@@ -31,6 +39,9 @@ fn main() -> ExitCode {
     leaves::compare(&mut report, &mut Rng::new(seed), cases(100_000));
     bounds::compare(&mut report, &mut Rng::new(seed + 1), cases(200_000));
     trees::compare(&mut report, &mut Rng::new(seed + 2), cases(40_000));
+    joins::compare(&mut report, &mut Rng::new(seed + 3), cases(22_000));
+    refusals::compare(&mut report, &mut Rng::new(seed + 4), cases(12_000));
+    radii::compare(&mut report, &mut Rng::new(seed + 5), cases(20_000));
     report.print();
     if report.differences() == 0 {
         ExitCode::SUCCESS

@@ -43,6 +43,8 @@ impl Kind {
 /// whose lattices begin at different places.
 pub struct Source {
     kind: Kind,
+    /// Of a lattice, on each axis.
+    lines: usize,
     origin: f64,
     scale: f64,
     few: [f64; 3],
@@ -54,10 +56,16 @@ impl Source {
         let scale = rng.pick(&[1e-6, 1.0, 1.0, 1e3, 1e9]);
         Source {
             kind,
+            lines: 12,
             origin: rng.pick(&[0.0, 0.0, 1.0, other, 7.0 * other, 1000.5]),
             scale,
             few: [(); 3].map(|_| (rng.unit() - 0.5) * scale),
         }
+    }
+
+    /// The same, with so many lines of a lattice on each axis.
+    pub fn over_lines(self, lines: usize) -> Self {
+        Source { lines, ..self }
     }
 
     /// The spacing of a lattice, else 1.
@@ -70,7 +78,7 @@ impl Source {
 
     pub fn value(&self, rng: &mut Rng) -> f64 {
         match self.kind {
-            Kind::Lattice(spacing) => (rng.below(12) as f64 - 4.0) * spacing + self.origin,
+            Kind::Lattice(spacing) => (rng.below(self.lines) as f64 - 4.0) * spacing + self.origin,
             Kind::Random => (rng.unit() - 0.5) * self.scale,
             Kind::Duplicates => rng.pick(&self.few),
             Kind::Huge => between(1e150, 1e308, rng),

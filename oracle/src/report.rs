@@ -8,6 +8,8 @@ pub struct Report {
     cases: BTreeMap<(&'static str, String), u64>,
     /// How often each radius, room, damage .. was drawn.
     drawn: BTreeMap<(&'static str, &'static str), u64>,
+    /// What else was counted.
+    counted: BTreeMap<&'static str, u64>,
     differences: u64,
 }
 
@@ -37,6 +39,10 @@ impl Report {
         *self.drawn.entry((what, name)).or_default() += 1;
     }
 
+    pub fn count(&mut self, what: &'static str) {
+        *self.counted.entry(what).or_default() += 1;
+    }
+
     pub fn differences(&self) -> u64 {
         self.differences
     }
@@ -48,6 +54,9 @@ impl Report {
         println!("drawn:");
         for ((what, name), count) in &self.drawn {
             println!("{count:>8} {what}: {name}");
+        }
+        for (what, count) in &self.counted {
+            println!("{count} {what}");
         }
         let total: u64 = self.cases.values().sum();
         println!("{total} cases, {} differences", self.differences);

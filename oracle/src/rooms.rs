@@ -1,6 +1,10 @@
 //! Output buffers with a pattern in them and around them, so that a store
 //! beyond what is due shows.
 
+use crate::report::same;
+use oracle::api::Pair;
+use oracle::ours::Out;
+use oulavisok::Rooms;
 use std::iter::repeat_n;
 
 /// Places on each side of what is lent.
@@ -35,5 +39,48 @@ impl<T: Copy> Room<T> {
             *place = value;
         }
         wanted.iter().zip(&self.all).all(|(&a, &b)| same(a, b))
+    }
+}
+
+/// The three buffers for pairs.
+pub struct Stored {
+    left: Room<u32>,
+    right: Room<u32>,
+    distance: Room<f64>,
+}
+
+impl Stored {
+    pub fn new(room: usize) -> Self {
+        Self::of_lengths([room; 3])
+    }
+    pub fn of_lengths([left, right, distance]: [usize; 3]) -> Self {
+        Stored {
+            left: Room::filled(left, 0xdead_beef),
+            right: Room::filled(right, 0xfeed_f00d),
+            distance: Room::filled(distance, 1e300),
+        }
+    }
+    /// For a leaf pair.
+    pub fn lent(&mut self) -> Out<'_> {
+        Out {
+            left: self.left.lent(),
+            right: self.right.lent(),
+            distance: self.distance.lent(),
+        }
+    }
+    /// For a whole join.
+    pub fn rooms(&mut self) -> Rooms<'_> {
+        Rooms {
+            left: self.left.lent(),
+            right: self.right.lent(),
+            distance: self.distance.lent(),
+        }
+    }
+    /// Whether the first places hold these pairs and nothing else has changed.
+    pub fn hold(&self, due: &[Pair]) -> bool {
+        let (left, right) = (due.iter().map(|p| p.0), due.iter().map(|p| p.1));
+        self.left.holds(left, |a, b| a == b)
+            && self.right.holds(right, |a, b| a == b)
+            && self.distance.holds(due.iter().map(|p| p.2), same)
     }
 }

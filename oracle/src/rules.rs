@@ -1,7 +1,7 @@
 //! Rules 1 to 7 of the tree check, read plainly from the scope paper: by the
 //! path of each leaf, not by going down the nodes.
 
-use crate::trees::Lot;
+use crate::lots::Lot;
 
 /// The number of the first rule broken, 0 if none.
 pub fn first_broken(lot: &Lot) -> u32 {
@@ -27,12 +27,8 @@ pub fn levels(leaves: usize) -> u32 {
     }
 }
 
-fn leaves(lot: &Lot) -> usize {
-    lot.starts.len() - 1
-}
-
 fn wrong_length(lot: &Lot) -> bool {
-    let stems = match leaves(lot) {
+    let stems = match lot.leaves() {
         0 | 1 => 0,
         many => many.next_power_of_two(),
     };
@@ -42,27 +38,27 @@ fn wrong_length(lot: &Lot) -> bool {
 fn wrong_starts(lot: &Lot) -> bool {
     let falls_or_long = |w: &[u32]| w[1] < w[0] || w[1] - w[0] > 1024;
     lot.starts[0] != 0
-        || lot.starts[leaves(lot)] as usize != lot.items.len()
+        || lot.starts[lot.leaves()] as usize != lot.items.len()
         || lot.starts.windows(2).any(falls_or_long)
 }
 
 /// At level v a node is over the leaves that share the bits above the last
 /// `levels - v`; the first of them is there unless the node is over none.
 fn wrong_pivot(lot: &Lot) -> bool {
-    let levels = levels(leaves(lot));
+    let levels = levels(lot.leaves());
     (0..levels).any(|level| {
         (0..1usize << level).any(|across| {
             let first = across << (levels - level);
             let pivot = lot.stems[(1 << level) + across];
-            first < leaves(lot) && (pivot.is_nan() || pivot == f64::NEG_INFINITY)
+            first < lot.leaves() && (pivot.is_nan() || pivot == f64::NEG_INFINITY)
         })
     })
 }
 
 /// Each point against each pivot on its leaf's path.
 fn out_of_order(lot: &Lot) -> bool {
-    let levels = levels(leaves(lot));
-    (0..leaves(lot)).any(|leaf| (0..levels).any(|level| misplaced(lot, leaf, level, levels)))
+    let levels = levels(lot.leaves());
+    (0..lot.leaves()).any(|leaf| (0..levels).any(|level| misplaced(lot, leaf, level, levels)))
 }
 
 fn misplaced(lot: &Lot, leaf: usize, level: u32, levels: u32) -> bool {

@@ -1,0 +1,29 @@
+// Replays a recorded sample of joins without Rust: each record of standard input is a job, the rooms it is called with and the answer that the Rust gave.
+// The program makes the same call of `join`, compares the answer and the rooms bit for bit, and writes how many joins of each kind were made and how many differ.
+//
+// A record, little-endian: job length u32 (at most 16,384), room u32 (at most 1,024), a buffer u32 and a length u32; the job; then the answer: number u32, side u32,
+// found u64, visits u64, measured u64, ruled out u64, whole u64; then the first pairs found, as many as the room holds: left u32, right u32, distance bits u64.
+// The job is as the job program reads it: KDJ, version u16 = 1, K, mode, a zero byte, radius f64, then both trees. A count's room is 0.
+// Buffer 0 changes nothing. 1 to 4 (left starts, stems, items, coordinates), 5 to 8 (the right's) and 9 to 11 (the rooms for left items, right items, distances)
+// name one buffer that is lent at the length given, not at its own: so refusals 2, 3 and 8 come about, which no job can ask for.
+//
+// The records and the lines to be written are made by `oracle/src/bin/record.rs` from the Rust's own walk; oracle/README.md says how. A record that cannot be read counts as different.
+mod calling;
+mod compare;
+mod decode;
+mod frame;
+mod layout;
+mod lengths;
+mod print;
+mod read;
+mod record;
+mod tally;
+
+use libc::STDIN_FILENO;
+
+fn main() {
+    let mut input = [0u8; 524288];
+    let n = io::read_full(STDIN_FILENO, &mut input);
+    let t = crate::record::replay(&input[..n]);
+    crate::print::lines(t);
+}
