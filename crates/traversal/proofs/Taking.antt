@@ -66,9 +66,13 @@ module _ (j : Trees) (edge : Edge) (radius : Float) (counting : Bool) (ok : Acce
             waits = subst (Sound j edge radius counting above) (sym v′) (half-axis, subst (λ (c : Boxes). Sound j edge radius counting c (view (len - 1) stack)) (sym back) (sound-half .3));
           }
 
-      pub turn-to-far : {a : ℕ} {min : Float} → a ≡ slotOf side axis → min ≡ raisedTo v lo
-          → Going j edge radius counting b₀ f (boxesOf (set (b .mins) a min) (set (b .maxs) a hi)) w (set stack (len - 1) (Restore side axis lo hi)) (len - 1 + 1) true
-      turn-to-far p q = subst₂ (λ (n : ℕ) (m : Float). Going j edge radius counting b₀ f (boxesOf (set (b .mins) n m) (set (b .maxs) n hi)) w (set stack (len - 1) (Restore side axis lo hi)) (len - 1 + 1) true) (sym p) (sym q) turn-far
+      -- as the code has it, the entry it leaves being r
+      pub turn-to-far : {a : ℕ} {min : Float} {r : Waiting} → a ≡ slotOf side axis → min ≡ raisedTo v lo → r ≡ Restore side axis lo hi
+          → Going j edge radius counting b₀ f (boxesOf (set (b .mins) a min) (set (b .maxs) a hi)) w (set stack (len - 1) r) (len - 1 + 1) true
+      turn-to-far {a} {min} p q s =
+          let g₁ : Going j edge radius counting b₀ f (boxesOf (set (b .mins) a min) (set (b .maxs) a hi)) w (set stack (len - 1) (Restore side axis lo hi)) (len - 1 + 1) true =
+          subst₂ (λ (n : ℕ) (m : Float). Going j edge radius counting b₀ f (boxesOf (set (b .mins) n m) (set (b .maxs) n hi)) w (set stack (len - 1) (Restore side axis lo hi)) (len - 1 + 1) true) (sym p) (sym q) turn-far in
+          subst (λ (y : Waiting). Going j edge radius counting b₀ f (boxesOf (set (b .mins) a min) (set (b .maxs) a hi)) w (set stack (len - 1) y) (len - 1 + 1) true) (sym s) g₁
 
       pub half-slot : {a : ℕ} → a ≡ slotOf side axis → a < 8
       half-slot p = within-boxes side axis p half-axis

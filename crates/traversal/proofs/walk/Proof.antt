@@ -330,7 +330,7 @@ loop-again-4 c = let w = c .before .before .before in
     let i = idling p .before .loop .inv in
     let g = none-at-hand _ _ _ _ (i .0) (idling p .if1 .left) (i .3) in
     let e = answered p ∙ entered w .w .given .1 ∙ ap Entry (w .w2 .given .1) in
-    (i .0, i .1, i .2, turn-to-far _ _ _ _ (i .0) g _ _ _ _ _ _ e (c .before .slot2 .ensures) (c .raised .ensures))
+    (i .0, i .1, i .2, turn-to-far _ _ _ _ (i .0) g _ _ _ _ _ _ e (c .before .slot2 .ensures) (c .raised .ensures) (search needs))
 
 enum-known-w-3 : tie.Need-enum-known-w-3 Inv-loop μ-loop
 enum-known-w-3 c = search needs
