@@ -6,6 +6,7 @@ use oracle::api;
 use oracle::rng::Rng;
 
 /// The buffers of a lent tree, and K.
+#[derive(Clone)]
 pub struct Lot {
     pub k: u32,
     pub starts: Vec<u32>,

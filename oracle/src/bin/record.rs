@@ -17,6 +17,9 @@ mod file;
 #[path = "record/grow.rs"]
 mod grow;
 #[allow(dead_code)]
+#[path = "../lots.rs"]
+mod lots;
+#[allow(dead_code)]
 #[path = "../points.rs"]
 mod points;
 #[path = "record/refused.rs"]
@@ -25,24 +28,6 @@ mod refused;
 mod rules;
 #[path = "record/stands.rs"]
 mod stands;
-
-/// What `rules.rs` reads: the buffers of a lent tree, and K.
-mod lots {
-    #[derive(Clone)]
-    pub struct Lot {
-        pub k: u32,
-        pub starts: Vec<u32>,
-        pub stems: Vec<f64>,
-        pub items: Vec<u32>,
-        pub coords: Vec<f64>,
-    }
-
-    impl Lot {
-        pub fn leaves(&self) -> usize {
-            self.starts.len() - 1
-        }
-    }
-}
 
 use file::Case;
 use oracle::rng::Rng;

@@ -14,7 +14,7 @@ use crate::count::{self, Counted};
 use crate::file::Case;
 use crate::lots::Lot;
 use crate::rules;
-use oracle::api::{self, Pair, Tree};
+use oracle::api::{self, Pair};
 
 #[derive(Default)]
 pub struct Answer {
@@ -52,25 +52,16 @@ pub fn answer(case: &Case) -> Answer {
     walked(case, &left, &right)
 }
 
-fn tree(lot: &Lot) -> Tree<'_> {
-    Tree {
-        starts: &lot.starts,
-        stems: &lot.stems,
-        items: &lot.items,
-        coords: &lot.coords,
-    }
-}
-
 fn walked(case: &Case, left: &Lot, right: &Lot) -> Answer {
     let (k, under, radius) = (left.k, case.under(), case.radius);
     api::stats();
     let (found, mut stored) = if case.counting() {
         (
-            api::walk_count(k, under, radius, tree(left), tree(right)),
+            api::walk_count(k, under, radius, left.rust(), right.rust()),
             vec![],
         )
     } else {
-        let pairs = api::walk_pairs(k, under, radius, tree(left), tree(right));
+        let pairs = api::walk_pairs(k, under, radius, left.rust(), right.rust());
         (pairs.len(), pairs)
     };
     let [visits, _, measured, matches, taken, rejected, spilled] = api::stats();
