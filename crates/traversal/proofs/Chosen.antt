@@ -7,7 +7,7 @@ use lib.Ieee.{Float}
 use Rattle.written.specs.LentTree.{isLeaf}
 use Rattle.written.specs.Boxes.{Trees, Edge}
 use Rattle.written.specs.Visits.{measured, ruled, whole, ends}
-use Rattle.written.specs.NodePairs.{NodePair, leftSide, rightSide, splitsRight, picked, split, visit}
+use Rattle.written.specs.NodePairs.{NodePair, splitsRight, picked, split, visit}
 use Rattle.written.specs.RadiusWalk.{ruledOut, takenWhole, step}
 use Rattle.cursor.specs.Held.{sideOf}
 use Rattle.traversal.specs.declared.moves.Fate.{Fate as Held}
@@ -15,6 +15,7 @@ use Rattle.traversal.specs.declared.moves.Fate.the-variants.{Measured, R
 use Rattle.traversal.specs.declared.moves.Move.the-variants.{End, Split}
 use Rattle.traversal.specs.Moves.{fateOf, moveBy, moveOf}
 use Rattle.traversal.specs.Ending.{MayEnd}
+use Rattle.traversal.proofs.Visiting.{SplitsOn, side-picked}
 
 apart-ruled : ruled ≡ whole → ⊥
 apart-ruled e = let z : _≡_ {A = ℕ} 0 1 = cc in omega arith
@@ -55,23 +56,17 @@ module _ (j : Trees) (edge : Edge) (radius : Float) (counting : Bool) (s : NodeP
       go false p false q false l e = let z : _≡_ {A = ℕ} 0 1 = cc in absurd (omega arith)
 
   -- the visit splits that side, which has a level left
-  pub record SplitsOn (side : ℕ) : Type 0 where
-    pub splits-so : step j edge radius counting s ≡ split j (picked s) s
-    pub on-side : sideOf side ≡ picked s
-    pub no-leaves : atLeaves ≡ false
+  abbrev Splits : ℕ → Type 0
+  Splits = SplitsOn j s (step j edge radius counting s)
 
-  splits-visit : {side : ℕ} → visit j (ruledOut j edge radius s) (takenWhole j edge radius counting s) s ≡ split j (picked s) s → sideOf side ≡ picked s → atLeaves ≡ false → SplitsOn side
+  splits-visit : {side : ℕ} → visit j (ruledOut j edge radius s) (takenWhole j edge radius counting s) s ≡ split j (picked s) s → sideOf side ≡ picked s → atLeaves ≡ false → Splits side
   unfolding step
   splits-visit e p l = record { splits-so = e; on-side = p; no-leaves = l }
 
-  side-picked : (right : Bool) → sideOf (cond right 1 0) ≡ cond right rightSide leftSide
-  side-picked true = refl
-  side-picked false = refl
-
-  pub chosen-split : (side : ℕ) → Split side ≡ moveOf j edge radius counting s → SplitsOn side
+  pub chosen-split : (side : ℕ) → Split side ≡ moveOf j edge radius counting s → Splits side
   chosen-split side e = go (ruledOut j edge radius s) refl (takenWhole j edge radius counting s) refl atLeaves refl e
     where
-      go : (out : Bool) → ruledOut j edge radius s ≡ out → (all : Bool) → takenWhole j edge radius counting s ≡ all → (leaf : Bool) → atLeaves ≡ leaf → Split side ≡ moveBy out all leaf (splitsRight s) → SplitsOn side
+      go : (out : Bool) → ruledOut j edge radius s ≡ out → (all : Bool) → takenWhole j edge radius counting s ≡ all → (leaf : Bool) → atLeaves ≡ leaf → Split side ≡ moveBy out all leaf (splitsRight s) → Splits side
       go true p all q leaf l e = let z : _≡_ {A = ℕ} 0 1 = cc in absurd (omega arith)
       go false p true q leaf l e = let z : _≡_ {A = ℕ} 0 1 = cc in absurd (omega arith)
       go false p false q true l e = let z : _≡_ {A = ℕ} 0 1 = cc in absurd (omega arith)

@@ -2,7 +2,7 @@
 use mathlib.Core.Path.{_≡_, refl, sym, ap, _∙_}
 use mathlib.Core.List.{List}
 use mathlib.Core.Bool.{Bool, true, false}
-use Prim.Native.Nat.{ℕ, _+_, _*_}
+use Prim.Native.Nat.{ℕ, _+_, _*_, _≤_}
 use native.Mathlib.Nat.{zero-add, add-assoc}
 use native.Mathlib.Omega.{arith}
 use lib.ListN.{length}
@@ -44,8 +44,14 @@ module _ (j : Trees) (edge : Edge) (radius : Float) (counting : Bool) where
 
 -- ---- the totals
 
+pub some-visits : {S : Type 0} (r : Run S) → 1 ≤ visits r
+unfolding visits
+some-visits (stop s k) = omega arith
+some-visits (one s r) = omega arith
+some-visits (two s r t) = omega arith
+
 -- the pairs of places of one fate
-abbrev ofFate : Fate → Totals → ℕ
+abbrev pub ofFate : Fate → Totals → ℕ
 ofFate measured t = t .measured
 ofFate ruled t = t .ruledOut
 ofFate whole t = t .whole

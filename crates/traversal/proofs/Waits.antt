@@ -10,7 +10,7 @@ use lib.Seq.{getD-set-same, getD-set-other}
 use lib.Ieee.{nan}
 use Rattle.cursor.specs.declared.Cursor.{Cursor}
 use Rattle.traversal.specs.declared.waiting.Waiting.{Waiting}
-use Rattle.traversal.specs.declared.waiting.Waiting.the-variants.{Far}
+use Rattle.traversal.specs.declared.waiting.Waiting.the-variants.{Half}
 use Rattle.traversal.specs.declared.waiting.Popped.{Popped}
 use Rattle.traversal.specs.declared.waiting.Popped.the-variants.{Entry, Nothing}
 use Rattle.traversal.specs.Popping.{poppedOf}
@@ -20,7 +20,7 @@ abbrev nowhere : Cursor
 nowhere = record { stem = record { 0 = 0 }; first = record { 0 = 0 }; end = record { 0 = 0 }; level = 0; remaining = 0 }
 
 abbrev pub blank : Waiting
-blank = Far 0 0 nan nan nan (record { left = nowhere; right = nowhere })
+blank = Half 0 0 nan nan nan (record { left = nowhere; right = nowhere })
 
 -- the first n entries of the array, the last of them first
 abbrev pub view : ℕ → List Waiting → List Waiting

@@ -7,12 +7,12 @@ ghost use Rattle.traversal.specs.Lent.{treesOf, roomsOf};
 ghost use Rattle.traversal.specs.Work.{workOf, walked};
 use metric::Boxes;
 
-mod descent;
+pub mod descent;
 mod finish;
-mod moves;
-mod nodes;
+pub mod moves;
+pub mod nodes;
 mod tally;
-mod waiting;
+pub mod waiting;
 
 use crate::descent::descend;
 use crate::finish::finish;
@@ -95,7 +95,7 @@ pub fn walk<'a>(
                         let i = slot(side, axis);
                         let min = b.min[i];
                         let max = b.max[i];
-                        stack[len] = Waiting::Far {
+                        stack[len] = Waiting::Half {
                             side,
                             axis,
                             min,
@@ -116,7 +116,7 @@ pub fn walk<'a>(
             };
             len -= 1;
             match w {
-                Waiting::Far {
+                Waiting::Half {
                     side,
                     axis,
                     min,

@@ -65,7 +65,7 @@ fn taken_whole<'a>(
     metric::accepts(metric::upper(min, max, k), radius, under)
 }
 
-fn both_leaves(at: Nodes) -> bool
+pub fn both_leaves(at: Nodes) -> bool
     ensures { λ r. ⌜ r ≡ (isLeaf (nodeOf (at .left)) && isLeaf (nodeOf (at .right))) ⌝ }
 {
     if !at.left.is_leaf() {
@@ -75,7 +75,7 @@ fn both_leaves(at: Nodes) -> bool
 }
 
 // Split the left, unless it is a leaf, or the right isn't and spans more leaves.
-fn splits_right(at: Nodes) -> bool
+pub fn splits_right(at: Nodes) -> bool
     requires { ⌜ Ordered at ⌝ }
     ensures { λ r. ⌜ r ≡ splitsRight (pairAt at (boxesOf [] [])) ⌝ }
 {

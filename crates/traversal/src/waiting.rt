@@ -1,11 +1,11 @@
-// What waits: a far half with its saved box side and pivot, or a box side to put back (the source's `Frame`).
+// What waits: the half that is taken second, with its saved box side and pivot, or a box side to put back (the source's `Frame`). The radius walk takes the far half second, nearest the near one.
 ghost use mathlib.Core.Path.{_≡_};
 ghost use Prim.Native.Nat.{_-_};
 ghost use Rattle.traversal.specs.Popping.{poppedOf};
 use crate::nodes::Nodes;
 
 pub enum Waiting {
-    Far {
+    Half {
         side: usize,
         axis: usize,
         min: f64,

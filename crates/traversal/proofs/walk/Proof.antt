@@ -15,15 +15,18 @@ use Rattle.metric.specs.Flat.{boxesOf}
 use Rattle.leaf.specs.Rooms.{SameRooms}
 use Rattle.traversal.specs.declared.waiting.Popped.the-variants.{Entry}
 use Rattle.traversal.specs.Lent.{treesOf, roomsOf}
-use Rattle.traversal.specs.Work.{Work, workOf}
+use Rattle.traversal.specs.Work.{Work, workOf, walked}
 use Rattle.traversal.proofs.Through.{tally-none, tally-examined}
 use Rattle.traversal.proofs.Waits.{view, taken, pop-takes, some-taken}
 use Rattle.traversal.proofs.Reading.{keeps, ordered-both, leaves-read}
 use Rattle.traversal.proofs.Lengths.{Alike, alike-rooms}
 use Rattle.traversal.proofs.Going.{Going, start, at-hand, none-at-hand, room}
-use Rattle.traversal.proofs.Visiting.{good-here, ends-with, splits-with, splits-here, turn-finish, axis-small, slot-small, turn-to-near, turn-to-both}
-use Rattle.traversal.proofs.Taking.{half-axis, half-slot, turn-to-far, side-axis, side-slot, turn-to-back, turn-over}
+use Rattle.traversal.proofs.Halves.{put-lowered}
+use Rattle.traversal.proofs.Visiting.{good-here, splits-here, axis-small, slot-small, turn-to-near, turn-to-both}
+use Rattle.traversal.proofs.Taking.{half-axis, half-slot, turn-to-half, side-axis, side-slot, turn-to-back, turn-over}
+use Rattle.traversal.proofs.Radius.{begins, radiusWalk}
 use Rattle.traversal.proofs.Bounded.{few-examined, unvisited}
+use Rattle.traversal.proofs.Turning.{ends-with, splits-with, turn-finish}
 use Rattle.traversal.proofs.walk.Statement.{statement}
 use Rattle.traversal.proofs.walk.Tie as tie
 
@@ -38,7 +41,7 @@ Inv-loop k radius under counting lstarts lstems litems lcoords rstarts rstems ri
     Accepts j
     × SameRooms lout₀ rout₀ dout₀
     × Alike (roomsOf lout₀ rout₀ dout₀) (roomsOf lout rout dout)
-    × Going j (edgeOf under) radius counting (roomsOf lout₀ rout₀ dout₀) at (boxesOf (b .min) (b .max)) (workOf t lout rout dout) stack len here
+    × Going (radiusWalk j (edgeOf under) radius counting) (walked j (edgeOf under) radius counting (roomsOf lout₀ rout₀ dout₀)) at (boxesOf (b .min) (b .max)) (workOf t lout rout dout) stack len here
 
 abbrev μ-loop : tie.MeasureT-loop
 μ-loop k radius under counting lstarts lstems litems lcoords rstarts rstems ritems rcoords lout₀ rout₀ dout₀ at₀ b₀ t₀ stack₀ len₀ here₀ lout rout dout at b t stack len here =
@@ -87,15 +90,15 @@ none-requires c κs = tt
 
 loop-holds : tie.Need-loop-holds Inv-loop μ-loop
 loop-holds c = let s = c .before .before .before .before .before .before .before .before .before .before .before .before .before .before in
-    (s .pre .0, s .pre .1, record { same-lefts = refl; same-rights = refl; same-distances = refl }, start _ _ _ _ (s .pre .0) _ _ _ refl (c .before .before .roots .ensures .0) (c .before .before .roots .ensures .1) (c .before .everywhere .ensures) (tally-none _ _ (c .none .ensures)))
+    (s .pre .0, s .pre .1, record { same-lefts = refl; same-rights = refl; same-distances = refl }, start _ (s .pre .0) _ _ refl (c .before .before .roots .ensures .0) (c .before .before .roots .ensures .1) (c .before .everywhere .ensures) (begins _ _ _ _ (tally-none _ _ (c .none .ensures))))
 
 visited-requires : tie.Need-visited-requires Inv-loop μ-loop
-visited-requires c κs = let i = c .before .loop .inv in omega (arith, unvisited _ _ _ _ (i .0) (at-hand _ _ _ _ (i .0) (c .if1 .taken) (i .3)))
+visited-requires c κs = let i = c .before .loop .inv in omega (arith, unvisited _ _ _ _ _ (i .0) (at-hand (c .if1 .taken) (i .3)))
 
 choose-requires : tie.Need-choose-requires Inv-loop μ-loop
 choose-requires c κs = let v = seen (c .before .before .before) in
     let i = v .before .loop .inv in
-    (keeps _ (i .0) leftSide rule₁ .1, ordered-both _ (i .0) _ (good-here _ _ _ _ (i .0) (at-hand _ _ _ _ (i .0) (v .if1 .taken) (i .3)) .node))
+    (keeps _ (i .0) leftSide rule₁ .1, ordered-both _ (i .0) _ (good-here (i .0) (at-hand (v .if1 .taken) (i .3)) .node))
 
 enum-known-m : tie.Need-enum-known-m Inv-loop μ-loop
 enum-known-m c = search needs
@@ -105,8 +108,8 @@ finish-requires c κs = let m = c .before .before .before .before in
     let h = m .before .before in
     let v = seen (chose h) in
     let i = v .before .loop .inv in
-    let g = at-hand _ _ _ _ (i .0) (v .if1 .taken) (i .3) in
-    (leaves-read _ (i .0) _ (good-here _ _ _ _ (i .0) g .node), (few-examined _ _ _ _ (i .0) g _ _ refl refl (chose h .visited .ensures), (alike-rooms (i .1) (i .2), ends-with _ _ _ _ (i .0) g (m .m .given .1) (h .choose .ensures) .allowed)))
+    let g = at-hand (v .if1 .taken) (i .3) in
+    (leaves-read _ (i .0) _ (good-here (i .0) g .node), (few-examined _ _ _ _ _ (i .0) g _ _ refl refl (chose h .visited .ensures), (alike-rooms (i .1) (i .2), ends-with _ _ _ _ _ (i .0) g (m .m .given .1) (h .choose .ensures) .allowed)))
 
 loop-less : tie.Need-loop-less Inv-loop μ-loop
 loop-less c = let f = c .before .before .before .before .before .before in
@@ -114,8 +117,8 @@ loop-less c = let f = c .before .before .before .before .before .before in
     let h = m .before .before in
     let v = seen (chose h) in
     let i = v .before .loop .inv in
-    let g = at-hand _ _ _ _ (i .0) (v .if1 .taken) (i .3) in
-    simp (v .if1 .taken) (omega (arith, unvisited _ _ _ _ (i .0) g, ap (λ (w : Work). w .totals .visits) (f .finish .ensures), ap (λ (t : Totals). t .visits) (chose h .visited .ensures .1)))
+    let g = at-hand (v .if1 .taken) (i .3) in
+    simp (v .if1 .taken) (omega (arith, unvisited _ _ _ _ _ (i .0) g, ap (λ (w : Work). w .totals .visits) (f .finish .ensures), ap (λ (t : Totals). t .visits) (chose h .visited .ensures .1)))
 
 loop-again : tie.Need-loop-again Inv-loop μ-loop
 loop-again c = let f = c .before .before .before .before .before .before in
@@ -123,8 +126,8 @@ loop-again c = let f = c .before .before .before .before .before .before in
     let h = m .before .before in
     let v = seen (chose h) in
     let i = v .before .loop .inv in
-    let g = at-hand _ _ _ _ (i .0) (v .if1 .taken) (i .3) in
-    let r = turn-finish _ _ _ _ (i .0) g _ (m .m .given .1) (h .choose .ensures) (tally-examined _ _ _ _ _ (chose h .visited .ensures)) (f .finish .ensures) (i .2) in
+    let g = at-hand (v .if1 .taken) (i .3) in
+    let r = turn-finish _ _ _ _ _ (i .0) g _ (m .m .given .1) (h .choose .ensures) (tally-examined _ _ _ _ _ (chose h .visited .ensures)) (f .finish .ensures) (i .2) in
     (i .0, i .1, r .0, r .1)
 
 enum-known-m-2 : tie.Need-enum-known-m-2 Inv-loop μ-loop
@@ -135,8 +138,8 @@ descend-requires c κs = let m = c .before in
     let h = m .before .before in
     let v = seen (chose h) in
     let i = v .before .loop .inv in
-    let g = at-hand _ _ _ _ (i .0) (v .if1 .taken) (i .3) in
-    splits-here _ _ _ _ (i .0) g (splits-with _ _ _ _ (i .0) g (m .m2 .given .1) (h .choose .ensures))
+    let g = at-hand (v .if1 .taken) (i .3) in
+    splits-here (i .0) g (splits-with _ _ _ _ _ (i .0) g (m .m2 .given .1) (h .choose .ensures))
 
 is-top-requires : tie.Need-is-top-requires Inv-loop μ-loop
 is-top-requires c κs = tt
@@ -149,8 +152,8 @@ small-axis c =
     let h = m .before .before in
     let v = seen (chose h) in
     let i = v .before .loop .inv in
-    let g = at-hand _ _ _ _ (i .0) (v .if1 .taken) (i .3) in
-    axis-small _ _ _ _ (i .0) g _ (splits-with _ _ _ _ (i .0) g (m .m2 .given .1) (h .choose .ensures)) _ (d .descend .ensures)
+    let g = at-hand (v .if1 .taken) (i .3) in
+    axis-small (i .0) g _ (splits-with _ _ _ _ _ (i .0) g (m .m2 .given .1) (h .choose .ensures)) _ (d .descend .ensures)
 
 small-slot : (c : tie.After-slot Inv-loop μ-loop) → c .slot .result < 8
 small-slot c =
@@ -159,8 +162,8 @@ small-slot c =
     let h = m .before .before in
     let v = seen (chose h) in
     let i = v .before .loop .inv in
-    let g = at-hand _ _ _ _ (i .0) (v .if1 .taken) (i .3) in
-    slot-small _ _ _ _ (i .0) g _ (splits-with _ _ _ _ (i .0) g (m .m2 .given .1) (h .choose .ensures)) _ (d .descend .ensures) (c .slot .ensures)
+    let g = at-hand (v .if1 .taken) (i .3) in
+    slot-small (i .0) g _ (splits-with _ _ _ _ _ (i .0) g (m .m2 .given .1) (h .choose .ensures)) _ (d .descend .ensures) (c .slot .ensures)
 
 slot-requires : tie.Need-slot-requires Inv-loop μ-loop
 slot-requires c κs = small-axis c
@@ -181,7 +184,7 @@ roomy : (c : tie.After-max Inv-loop μ-loop) → seen (chose (splitting (halved 
 roomy c =
     let v = seen (chose (splitting (halved (c .before .before .before .before)) .before .before)) in
     let i = v .before .loop .inv in
-    omega (arith, room _ _ _ _ (i .0) (i .3))
+    omega (arith, room (i .0) (i .3))
 
 mul-stack : tie.Need-mul-stack Inv-loop μ-loop
 mul-stack c = omega (arith, roomy c)
@@ -205,7 +208,7 @@ loop-less-2 : tie.Need-loop-less-2 Inv-loop μ-loop
 loop-less-2 c = let h = splitting (halved (c .before .before .before .before .before)) .before .before in
     let v = seen (chose h) in
     let i = v .before .loop .inv in
-    simp (v .if1 .taken) (omega (arith, unvisited _ _ _ _ (i .0) (at-hand _ _ _ _ (i .0) (v .if1 .taken) (i .3)), ap (λ (t : Totals). t .visits) (chose h .visited .ensures .1)))
+    simp (v .if1 .taken) (omega (arith, unvisited _ _ _ _ _ (i .0) (at-hand (v .if1 .taken) (i .3)), ap (λ (t : Totals). t .visits) (chose h .visited .ensures .1)))
 
 loop-again-2 : tie.Need-loop-again-2 Inv-loop μ-loop
 loop-again-2 c = let n = c .before .before .before in
@@ -214,14 +217,14 @@ loop-again-2 c = let n = c .before .before .before in
     let h = m .before .before in
     let v = seen (chose h) in
     let i = v .before .loop .inv in
-    let g = at-hand _ _ _ _ (i .0) (v .if1 .taken) (i .3) in
-    (i .0, i .1, i .2, turn-to-both _ _ _ _ (i .0) g _ (splits-with _ _ _ _ (i .0) g (m .m2 .given .1) (h .choose .ensures)) _ (d .descend .ensures) (tally-examined _ _ _ _ _ (chose h .visited .ensures)) (v .if1 .taken) (n .slot .ensures) (c .lowered .ensures) (refused (n .before .before .is-top .ensures) (n .before .if2 .taken)))
+    let g = at-hand (v .if1 .taken) (i .3) in
+    (i .0, i .1, i .2, turn-to-both (i .0) g _ (splits-with _ _ _ _ _ (i .0) g (m .m2 .given .1) (h .choose .ensures)) _ (d .descend .ensures) (tally-examined _ _ _ _ _ (chose h .visited .ensures)) (v .if1 .taken) (n .slot .ensures) (put-lowered (boxesOf (v .before .loop .b .min) (v .before .loop .b .max)) (n .slot .result) _ (c .lowered .ensures)) (refused (n .before .before .is-top .ensures) (n .before .if2 .taken)))
 
 loop-less-3 : tie.Need-loop-less-3 Inv-loop μ-loop
 loop-less-3 c = let h = splitting (halved (c .before)) .before .before in
     let v = seen (chose h) in
     let i = v .before .loop .inv in
-    simp (v .if1 .taken) (omega (arith, unvisited _ _ _ _ (i .0) (at-hand _ _ _ _ (i .0) (v .if1 .taken) (i .3)), ap (λ (t : Totals). t .visits) (chose h .visited .ensures .1)))
+    simp (v .if1 .taken) (omega (arith, unvisited _ _ _ _ _ (i .0) (at-hand (v .if1 .taken) (i .3)), ap (λ (t : Totals). t .visits) (chose h .visited .ensures .1)))
 
 loop-again-3 : tie.Need-loop-again-3 Inv-loop μ-loop
 loop-again-3 c = let d = halved (c .before) in
@@ -229,17 +232,17 @@ loop-again-3 c = let d = halved (c .before) in
     let h = m .before .before in
     let v = seen (chose h) in
     let i = v .before .loop .inv in
-    let g = at-hand _ _ _ _ (i .0) (v .if1 .taken) (i .3) in
-    (i .0, i .1, i .2, turn-to-near _ _ _ _ (i .0) g _ (splits-with _ _ _ _ (i .0) g (m .m2 .given .1) (h .choose .ensures)) _ (d .descend .ensures) (tally-examined _ _ _ _ _ (chose h .visited .ensures)) (v .if1 .taken) (granted (c .before .is-top .ensures) (c .if2 .left)))
+    let g = at-hand (v .if1 .taken) (i .3) in
+    (i .0, i .1, i .2, turn-to-near (i .0) g _ (splits-with _ _ _ _ _ (i .0) g (m .m2 .given .1) (h .choose .ensures)) _ (d .descend .ensures) (tally-examined _ _ _ _ _ (chose h .visited .ensures)) (v .if1 .taken) (granted (c .before .is-top .ensures) (c .if2 .left)))
 
 top-of-requires : tie.Need-top-of-requires Inv-loop μ-loop
 top-of-requires c κs = tt
 
 mul-top : tie.Need-mul-top Inv-loop μ-loop
-mul-top c = let i = c .before .before .loop .inv in omega (arith, room _ _ _ _ (i .0) (i .3), c .top-of .ensures)
+mul-top c = let i = c .before .before .loop .inv in omega (arith, room (i .0) (i .3), c .top-of .ensures)
 
 array-copy-out-top : tie.Need-array-copy-out-top Inv-loop μ-loop
-array-copy-out-top c = let i = c .before .before .loop .inv in omega (arith, room _ _ _ _ (i .0) (i .3), c .top-of .ensures)
+array-copy-out-top c = let i = c .before .before .loop .inv in omega (arith, room (i .0) (i .3), c .top-of .ensures)
 
 pop-requires : tie.Need-pop-requires Inv-loop μ-loop
 pop-requires c κs = tt
@@ -266,7 +269,7 @@ same-length-3 c = idling (c .before .before) .before .loop .inv .2 .same-distanc
 returns : tie.Need-returns Inv-loop μ-loop
 returns c = let p = c .before .before in
     let i = idling p .before .loop .inv in
-    turn-over _ _ _ _ (i .0) (none-at-hand _ _ _ _ (i .0) (idling p .if1 .left) (i .3)) (answered p ∙ c .enum-told .given .1)
+    turn-over (i .0) (none-at-hand (idling p .if1 .left) (i .3)) (answered p ∙ c .enum-told .given .1)
 
 some-waited : (c : tie.After-w Inv-loop μ-loop) → 0 < idling (taking c) .before .loop .len
 some-waited c = let l = idling (taking c) .before .loop in some-taken (l .len) (l .stack) (answered (taking c) ∙ c .w .given .1) .0
@@ -281,9 +284,9 @@ slot-requires-2 : tie.Need-slot-requires-2 Inv-loop μ-loop
 slot-requires-2 c κs = let w = c .before in
     let p = taking (entered w) in
     let i = idling p .before .loop .inv in
-    let g = none-at-hand _ _ _ _ (i .0) (idling p .if1 .left) (i .3) in
+    let g = none-at-hand (idling p .if1 .left) (i .3) in
     let e = answered p ∙ entered w .w .given .1 ∙ ap Entry (w .w2 .given .1) in
-    half-axis _ _ _ _ (i .0) g _ _ _ _ _ _ e
+    half-axis (i .0) g _ _ _ _ _ _ e
 
 raised-requires : tie.Need-raised-requires Inv-loop μ-loop
 raised-requires c κs = tt
@@ -293,9 +296,9 @@ far-slot c =
     let w = c .before .before in
     let p = taking (entered w) in
     let i = idling p .before .loop .inv in
-    let g = none-at-hand _ _ _ _ (i .0) (idling p .if1 .left) (i .3) in
+    let g = none-at-hand (idling p .if1 .left) (i .3) in
     let e = answered p ∙ entered w .w .given .1 ∙ ap Entry (w .w2 .given .1) in
-    half-slot _ _ _ _ (i .0) g _ _ _ _ _ _ e (c .slot2 .ensures)
+    half-slot (i .0) g _ _ _ _ _ _ e (c .slot2 .ensures)
 
 mul-b-2 : tie.Need-mul-b-2 Inv-loop μ-loop
 mul-b-2 c = omega (arith, far-slot (c .before))
@@ -310,7 +313,7 @@ element-write-b-3 : tie.Need-element-write-b-3 Inv-loop μ-loop
 element-write-b-3 c = far-slot (c .before)
 
 roomy-again : (c : tie.After-w2 Inv-loop μ-loop) → idling (taking (entered c)) .before .loop .len - 1 < 25
-roomy-again c = let i = idling (taking (entered c)) .before .loop .inv in omega (arith, room _ _ _ _ (i .0) (i .3))
+roomy-again c = let i = idling (taking (entered c)) .before .loop .inv in omega (arith, room (i .0) (i .3))
 
 mul-stack-2 : tie.Need-mul-stack-2 Inv-loop μ-loop
 mul-stack-2 c = omega (arith, roomy-again (c .before .before .before))
@@ -328,9 +331,9 @@ loop-again-4 : tie.Need-loop-again-4 Inv-loop μ-loop
 loop-again-4 c = let w = c .before .before .before in
     let p = taking (entered w) in
     let i = idling p .before .loop .inv in
-    let g = none-at-hand _ _ _ _ (i .0) (idling p .if1 .left) (i .3) in
+    let g = none-at-hand (idling p .if1 .left) (i .3) in
     let e = answered p ∙ entered w .w .given .1 ∙ ap Entry (w .w2 .given .1) in
-    (i .0, i .1, i .2, turn-to-far _ _ _ _ (i .0) g _ _ _ _ _ _ e (c .before .slot2 .ensures) (c .raised .ensures) (search needs))
+    (i .0, i .1, i .2, turn-to-half (i .0) g _ _ _ _ _ _ e (c .before .slot2 .ensures) (c .raised .ensures) refl (search needs))
 
 enum-known-w-3 : tie.Need-enum-known-w-3 Inv-loop μ-loop
 enum-known-w-3 c = search needs
@@ -339,18 +342,18 @@ slot-requires-3 : tie.Need-slot-requires-3 Inv-loop μ-loop
 slot-requires-3 c κs = let w = c .before in
     let p = taking (entered3 w) in
     let i = idling p .before .loop .inv in
-    let g = none-at-hand _ _ _ _ (i .0) (idling p .if1 .left) (i .3) in
+    let g = none-at-hand (idling p .if1 .left) (i .3) in
     let e = answered p ∙ entered3 w .w .given .1 ∙ ap Entry (w .w3 .given .1) in
-    side-axis _ _ _ _ (i .0) g _ _ _ _ e
+    side-axis (i .0) g _ _ _ _ e
 
 back-slot : (c : tie.After-slot3 Inv-loop μ-loop) → c .slot3 .result < 8
 back-slot c =
     let w = c .before .before in
     let p = taking (entered3 w) in
     let i = idling p .before .loop .inv in
-    let g = none-at-hand _ _ _ _ (i .0) (idling p .if1 .left) (i .3) in
+    let g = none-at-hand (idling p .if1 .left) (i .3) in
     let e = answered p ∙ entered3 w .w .given .1 ∙ ap Entry (w .w3 .given .1) in
-    side-slot _ _ _ _ (i .0) g _ _ _ _ e (c .slot3 .ensures)
+    side-slot (i .0) g _ _ _ _ e (c .slot3 .ensures)
 
 mul-b-4 : tie.Need-mul-b-4 Inv-loop μ-loop
 mul-b-4 c = omega (arith, back-slot c)
@@ -371,9 +374,9 @@ loop-again-5 : tie.Need-loop-again-5 Inv-loop μ-loop
 loop-again-5 c = let w = c .before .before in
     let p = taking (entered3 w) in
     let i = idling p .before .loop .inv in
-    let g = none-at-hand _ _ _ _ (i .0) (idling p .if1 .left) (i .3) in
+    let g = none-at-hand (idling p .if1 .left) (i .3) in
     let e = answered p ∙ entered3 w .w .given .1 ∙ ap Entry (w .w3 .given .1) in
-    (i .0, i .1, i .2, turn-to-back _ _ _ _ (i .0) g _ _ _ _ e (c .slot3 .ensures) (idling p .if1 .left))
+    (i .0, i .1, i .2, turn-to-back (i .0) g _ _ _ _ e (c .slot3 .ensures) (idling p .if1 .left))
 
 pub walk-spec : {M : Type 1} → statement M
 walk-spec =

@@ -1,0 +1,5 @@
+pub mod Lent
+pub mod Largest
+pub mod Moves
+pub mod Held
+pub mod Executed

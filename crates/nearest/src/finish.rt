@@ -1,0 +1,93 @@
+// A visit that ends: its pairs of places are measured or ruled out.
+ghost use mathlib.Core.Path.{_≡_};
+ghost use mathlib.Core.List.{[]};
+ghost use lib.ListN.{length};
+ghost use Rattle.written.specs.Nearest.{update};
+ghost use Rattle.metric.specs.Flat.{boxesOf};
+ghost use Rattle.leaf.specs.Answers.{answers, Answering};
+ghost use Rattle.traversal.specs.Lent.{stemless};
+ghost use Rattle.traversal.specs.Standing.{pairAt};
+ghost use Rattle.traversal.specs.Ending.{Leaves};
+ghost use Rattle.nearest.specs.Held.{heldOf, after, FewPairs};
+ghost use Rattle.nearest.specs.Moves.{fateOf};
+use crate::moves::Fate;
+use traversal::Tally;
+use traversal::nodes::Nodes;
+
+// Both at leaves: the leaf update is lent the left leaf's own stretch of the answers.
+fn measure(
+    k: usize,
+    lstarts: &[u32],
+    litems: &[u32],
+    lcoords: &[f64],
+    rstarts: &[u32],
+    ritems: &[u32],
+    rcoords: &[f64],
+    at: Nodes,
+    items: &mut [u32],
+    dists: &mut [f64],
+)
+    requires { ⌜ Leaves k (now lstarts) (now litems) (now lcoords) (now rstarts) (now ritems) (now rcoords) at ⌝ }
+    requires { ⌜ Answering 0 (length (now litems)) (now items) (now dists) ⌝ }
+    ensures { λ r. ⌜ answers (now (items .exit)) (now (dists .exit)) ≡ update (stemless k (now (lstarts .entry)) (now (litems .entry)) (now (lcoords .entry)) (now (rstarts .entry)) (now (ritems .entry)) (now (rcoords .entry))) (answers (now (items .entry)) (now (dists .entry))) (pairAt at (boxesOf [] [])) ⌝ }
+{
+    let l = at.left;
+    let r = at.right;
+    let ls = cursor::start_of(lstarts, l.first);
+    let lend = cursor::start_of(lstarts, l.end);
+    let rs = cursor::start_of(rstarts, r.first);
+    let rend = cursor::start_of(rstarts, r.end);
+    leaf::nearest::update_leaf(
+        k,
+        litems,
+        lcoords,
+        ls,
+        lend,
+        ritems,
+        rcoords,
+        rs,
+        rend,
+        &mut items[ls..lend],
+        &mut dists[ls..lend],
+    );
+}
+
+pub fn finish(
+    fate: Fate,
+    k: usize,
+    lstarts: &[u32],
+    litems: &[u32],
+    lcoords: &[f64],
+    rstarts: &[u32],
+    ritems: &[u32],
+    rcoords: &[f64],
+    at: Nodes,
+    t: Tally,
+    items: &mut [u32],
+    dists: &mut [f64],
+) -> Tally
+    requires { ⌜ Leaves k (now lstarts) (now litems) (now lcoords) (now rstarts) (now ritems) (now rcoords) at ⌝ }
+    requires { ⌜ Answering 0 (length (now litems)) (now items) (now dists) ⌝ }
+    requires { ⌜ FewPairs t ⌝ }
+    ensures { λ r. ⌜ heldOf r (now (items .exit)) (now (dists .exit)) ≡ after (stemless k (now (lstarts .entry)) (now (litems .entry)) (now (lcoords .entry)) (now (rstarts .entry)) (now (ritems .entry)) (now (rcoords .entry))) (fateOf fate) (pairAt at (boxesOf [] [])) (heldOf t (now (items .entry)) (now (dists .entry))) ⌝ }
+{
+    let n = traversal::nodes::area(lstarts, rstarts, at);
+    match fate {
+        Fate::Measured => {
+            measure(
+                k,
+                lstarts,
+                litems,
+                lcoords,
+                rstarts,
+                ritems,
+                rcoords,
+                at,
+                &mut *items,
+                &mut *dists,
+            );
+            t.measured(n, t.found)
+        }
+        Fate::RuledOut => t.ruled_out(n),
+    }
+}
