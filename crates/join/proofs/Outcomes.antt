@@ -7,7 +7,8 @@ use native.Mathlib.Omega.{arith}
 use lib.ListN.{length}
 use lib.Ieee.{Float}
 use Rattle.written.specs.Boxes.{Trees, Edge}
-use Rattle.written.specs.Answers.{Answer, answered, refused, leftRefusal, rightRefusal, Accepts, PairRooms, pairRoomsAgree, roomNumber, pairsIn}
+use Rattle.written.specs.Answers.{Answer, answered, refused, checked, leftRefusal, rightRefusal, Accepts, PairRooms, pairRoomsAgree, roomNumber, pairsIn}
+use Rattle.written.specs.Answers.{NearRooms, nearRoomsAgree, nearRoomOk, nearestIn}
 use Rattle.written.specs.Rules.{FirstBroken}
 use Rattle.written.specs.Checked.{refusal-is-first}
 use Rattle.written.specs.Calls.{TreeRefused, left-broken, right-broken}
@@ -17,9 +18,11 @@ use Rattle.leaf.specs.Rooms.{SameRooms}
 use Rattle.traversal.specs.Lent.{roomsOf}
 use Rattle.traversal.specs.Work.{Work, totalsHeld, workOf, walked}
 use Rattle.traversal.specs.declared.tally.Tally.{Tally}
+use Rattle.nearest.specs.Lent.{nearRoomsOf}
+use Rattle.nearest.specs.Executed.{Outcome, outcomeOf, executed}
 use Rattle.join.specs.declared.answer.Answer.{Answer as Held}
-use Rattle.join.specs.Told.{answerOf, withRooms, PairsTold, CountsTold}
-use Rattle.join.specs.Onward.{pairs-differ, pairs-walk, countsWalked, counts-walk}
+use Rattle.join.specs.Told.{answerOf, withRooms, withNearRooms, PairsTold, CountsTold, NearestTold}
+use Rattle.join.specs.Onward.{pairs-differ, pairs-walk, countsWalked, counts-walk, nearest-differ, nearest-short, nearest-walk}
 
 -- ---- the check's two numbers, as the code holds them
 
@@ -40,6 +43,11 @@ module _ (j : Trees) where
 pub same-rooms : (b : PairRooms) → pairRoomsAgree b ≡ true → SameRooms (b .lefts) (b .rights) (b .distances)
 same-rooms b e = let a = rooms-agree b .0 e in (a .0, a .0 ∙ a .1)
 
+-- a call that fills rooms and goes on with `rest`: where a tree is refused, the rooms are as they were
+tree-refused : {Rooms : Type 0} (j : Trees) (b : Rooms) (rest : Answer × Rooms) {a : Held} {n s : ℕ} → answerOf a ≡ refused n s → TreeRefused j n s
+    → (answerOf a, b) ≡ checked (λ n s. (refused n s, b)) (leftRefusal j) (rightRefusal j) rest
+tree-refused j b rest e t = ap (λ (x : Answer). (x, b)) e ∙ sym (on-refused j (λ n s. (refused n s, b)) rest t)
+
 -- ---- pairs
 
 module _ (j : Trees) (edge : Edge) (radius : Float) (b : PairRooms) where
@@ -48,7 +56,7 @@ module _ (j : Trees) (edge : Edge) (radius : Float) (b : PairRooms) where
   Untouched a = PairsTold j edge radius b (withRooms a (b .lefts) (b .rights) (b .distances))
 
   pub pairs-refused : {a : Held} {n s : ℕ} → answerOf a ≡ refused n s → TreeRefused j n s → Untouched a
-  pairs-refused e t = ap (λ (x : Answer). (x, b)) e ∙ sym (on-refused j (λ n s. (refused n s, b)) (pairsIn j edge radius b (pairRoomsAgree b)) t)
+  pairs-refused e t = tree-refused j b (pairsIn j edge radius b (pairRoomsAgree b)) e t
 
   pub rooms-refused : {a : Held} → answerOf a ≡ refused 8 0 → Accepts j → pairRoomsAgree b ≡ false → Untouched a
   rooms-refused e ok d = ap (λ (x : Answer). (x, b)) e ∙ sym (pairs-differ j edge radius b ok d)
@@ -74,3 +82,27 @@ module _ (j : Trees) (edge : Edge) (radius : Float) where
       → workOf t lefts rights distances ≡ walked j edge radius true b
       → CountsTold j edge radius a
   counts-told e ok w = e ∙ ap (λ (x : Work). answered 0 (x .fill .found) (x .totals)) w ∙ sym (counts-walk j edge radius ok)
+
+-- ---- nearest
+
+module _ (j : Trees) (b : NearRooms) where
+  abbrev Unwritten : Held → Type 0
+  Unwritten a = NearestTold j b (withNearRooms a (b .items) (b .distances))
+
+  pub nearest-refused : {a : Held} {n s : ℕ} → answerOf a ≡ refused n s → TreeRefused j n s → Unwritten a
+  nearest-refused e t = tree-refused j b (nearestIn j b (nearRoomsAgree b) (nearRoomOk j b)) e t
+
+  pub near-rooms-refused : {a : Held} → answerOf a ≡ refused 8 0 → Accepts j → nearRoomsAgree b ≡ false → Unwritten a
+  near-rooms-refused e ok d = ap (λ (x : Answer). (x, b)) e ∙ sym (nearest-differ j b ok d)
+
+  pub near-room-refused : {a : Held} → answerOf a ≡ refused 9 0 → Accepts j → nearRoomsAgree b ≡ true → nearRoomOk j b ≡ false → Unwritten a
+  near-room-refused e ok d f = ap (λ (x : Answer). (x, b)) e ∙ sym (nearest-short j b ok d f)
+
+  -- the walk counted t and left these rooms
+  pub nearest-told : {a : Held} {t : Tally} {items : List ℕ} {distances : List Float} → answerOf a ≡ answered 0 (t .found) (totalsHeld t) → Accepts j → nearRoomsAgree b ≡ true → nearRoomOk j b ≡ true
+      → outcomeOf t items distances ≡ executed j b
+      → NearestTold j b (withNearRooms a items distances)
+  nearest-told {items = items} {distances = distances} e ok d f w =
+      ap (λ (x : Answer). (x, nearRoomsOf items distances)) e
+      ∙ ap (λ (x : Outcome). (answered 0 (x .written) (x .totals), x .rooms)) w
+      ∙ sym (nearest-walk j b ok d f)

@@ -1,4 +1,4 @@
--- The demands, of any result that a promise permits: what refused trees get, right answers, and totals that account for each pair of places. Assumes nothing.
+-- The demands on pairs and counts, of any result that a promise permits: what refused trees get, right answers, and totals that account for each pair of places. Assumes nothing.
 use mathlib.Core.Path.{_≡_, refl, sym, ap, _∙_, subst}
 use mathlib.Core.Bool.{Bool, true, false}
 use mathlib.Core.List.{List, _++_, map, List·Permᴰ}
@@ -12,7 +12,7 @@ use Rattle.written.specs.Boxes.{Trees, Edge}
 use Rattle.written.specs.NodePairs.{stemLevels}
 use Rattle.written.specs.RadiusWalk.{Found, allAgainstAll, found}
 use Rattle.written.specs.Totals.{Totals, none, walkTotals}
-use Rattle.written.specs.Answers.{Answer, refused, Accepts, PairRooms, pairRoomsAgree, stored, roomNumber, pairsIn}
+use Rattle.written.specs.Answers.{Answer, refused, checked, leftRefusal, rightRefusal, Accepts, PairRooms, pairRoomsAgree, stored, roomNumber, pairsIn}
 use Rattle.written.specs.Calls.{TreeRefused, PairRoomsAgree}
 use Rattle.written.specs.Right.{found-is-rearrangement, count-is-its-length}
 use Rattle.written.specs.Accounted.{totals-add-up}
@@ -85,14 +85,19 @@ accounted j edge radius counting ok = record {
   none-whole = λ e. subst (λ (c : Bool). walkTotals j edge radius c .whole ≡ 0) (sym e) (pairs-take-none-whole j edge radius);
 }
 
+-- a call that fills rooms and goes on with `rest`: where a tree is refused, the rooms are as they were
+pub refused-untouched : {Rooms : Type 0} (j : Trees) (b : Rooms) (rest : Answer × Rooms) {x : Answer × Rooms} → x ≡ checked (λ n s. (refused n s, b)) (leftRefusal j) (rightRefusal j) rest
+    → (Accepts j → ⊥)
+    → Refused j (x .0) × (x .1 ≡ b)
+refused-untouched {Rooms} j b rest told bad =
+    let P : Answer × Rooms → Type 0 = λ x. Refused j (x .0) × (x .1 ≡ b) in
+    subst P (sym told) (by-trees j (λ n s. (refused n s, b)) rest P (λ n s t. (record { first-broken = t; none-found = refl; no-totals = refl }, refl)) (λ ok. absurd (bad ok)))
+
 -- ---- pairs
 
-module _ (j : Trees) (edge : Edge) (radius : Float) (b : PairRooms) (r : Result) (told : PairsTold j edge radius b r) where
+module _ (j : Trees) (edge : Edge) (radius : Float) (b : PairRooms) (r : Result PairRooms) (told : PairsTold j edge radius b r) where
   pub pairs-refused : (Accepts j → ⊥) → Refused j (answerOf (r .answer)) × (r .rooms ≡ b)
-  pairs-refused bad =
-      let P : Answer × PairRooms → Type 0 = λ x. Refused j (x .0) × (x .1 ≡ b) in
-      subst P (sym told)
-      (by-trees j (λ n s. (refused n s, b)) (pairsIn j edge radius b (pairRoomsAgree b)) P (λ n s t. (record { first-broken = t; none-found = refl; no-totals = refl }, refl)) (λ ok. absurd (bad ok)))
+  pairs-refused bad = refused-untouched j b (pairsIn j edge radius b (pairRoomsAgree b)) told bad
 
   module _ (ok : Accepts j) where
     -- rule 8

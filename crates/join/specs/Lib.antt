@@ -3,3 +3,4 @@ pub mod Onward
 pub mod Unique
 pub mod Table
 pub mod Demands
+pub mod NearestDemands

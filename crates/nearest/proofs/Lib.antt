@@ -1,5 +1,9 @@
 pub mod HeldDistances
 pub mod NoneAbove
+pub mod BoxFar
+pub mod Unchanged
+pub mod OneOf
+pub mod NoGain
 pub mod Parts
 pub mod Whole
 pub mod Carrying

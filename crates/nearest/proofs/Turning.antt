@@ -8,7 +8,7 @@ use lib.ListN.{replicate}
 use lib.Pow.{pow-mono}
 use lib.Ieee.{Float}
 use Rattle.written.specs.LentTree.{places, isLeaf}
-use Rattle.written.specs.Boxes.{Trees, Boxes}
+use Rattle.written.specs.Boxes.{Trees, Boxes, distance}
 use Rattle.written.specs.Visits.{Fate, measured, ruled, whole, ends}
 use Rattle.written.specs.NodePairs.{NodePair, stemLevels, splitsRight}
 use Rattle.written.specs.Nearest.{unset, nearRuledOut, nearStep, update}
@@ -25,6 +25,7 @@ use Rattle.traversal.specs.Standing.{pairAt}
 use Rattle.traversal.specs.Work.{totalsHeld, visited}
 use Rattle.traversal.specs.Ending.{Leaves}
 use Rattle.traversal.proofs.Through.{Examined, ofFate}
+use Rattle.traversal.proofs.Pending.{levelsLeft}
 use Rattle.traversal.proofs.Reading.{leaves-read}
 use Rattle.traversal.proofs.Going.{Going, never-above, still-below}
 use Rattle.traversal.proofs.Visiting.{SplitsOn, good-here, turn-end}
@@ -32,9 +33,11 @@ use Rattle.nearest.specs.declared.moves.Fate.{Fate as Fated}
 use Rattle.nearest.specs.declared.moves.Move.{Move}
 use Rattle.nearest.specs.declared.moves.Move.the-variants.{End, Split}
 use Rattle.nearest.specs.Largest.{HeldUnder}
+use Rattle.nearest.specs.Apart.{BoxNoFarther}
 use Rattle.nearest.specs.Moves.{fateOf, moveBy, moveOf, ruledOutBy}
 use Rattle.nearest.specs.Held.{Held, heldOf, after, FewPairs, unvisited, walked}
 use Rattle.nearest.proofs.HeldDistances.{ruled-out-is}
+use Rattle.nearest.proofs.BoxFar.{box-no-farther}
 use Rattle.nearest.proofs.Carrying.{examined, from-end, nearestWalk, fate-grows, visits-rise}
 use Rattle.nearest.proofs.Chosen.{chosen-end, chosen-split}
 
@@ -63,6 +66,11 @@ module _ (j : Trees) (ok : Accepts j) {all : Held} {at : Nodes} {b : Boxes} {u :
 
   pub held-here : HeldUnder (j .left .starts) distances at
   held-here = record { left-within = leaves-here .left-within; held-read = omega (arith, leaves-here .pair .left .inside, lent .1) }
+
+  -- stems play no part
+  pub box-here : BoxNoFarther (stemless (j .axes) (j .left .starts) (j .left .items) (j .left .coords) (j .right .starts) (j .right .items) (j .right .coords)) (pairAt at b)
+  unfolding distance
+  box-here = box-no-farther j ok (levelsLeft (pairAt at b)) (pairAt at b) (good-here ok g)
 
   -- the code asks the distances alone
   asked : ruledOutBy j distances (pairAt at b) ≡ nearRuledOut j (answers items distances) (pairAt at b)

@@ -8,14 +8,16 @@ ghost use Rattle.leaf.specs.Answers.{answers, Answering};
 ghost use Rattle.traversal.specs.Lent.{stemless};
 ghost use Rattle.traversal.specs.Standing.{pairAt};
 ghost use Rattle.traversal.specs.Ending.{Leaves};
+ghost use Rattle.nearest.specs.Apart.{BoxNoFarther};
 ghost use Rattle.nearest.specs.Held.{heldOf, after, FewPairs};
 ghost use Rattle.nearest.specs.Moves.{fateOf};
+use crate::gains::gains;
 use crate::moves::Fate;
 use traversal::Tally;
 use traversal::nodes::Nodes;
 
-// Both at leaves: the leaf update is lent the left leaf's own stretch of the answers.
-fn measure(
+// Both at leaves: the leaf update is lent the left leaf's own stretch of the answers. Where no place of it can gain, nothing would change.
+fn measure<'a>(
     k: usize,
     lstarts: &[u32],
     litems: &[u32],
@@ -24,11 +26,14 @@ fn measure(
     ritems: &[u32],
     rcoords: &[f64],
     at: Nodes,
+    min: &'a [f64; 8],
+    max: &'a [f64; 8],
     items: &mut [u32],
     dists: &mut [f64],
 )
     requires { ⌜ Leaves k (now lstarts) (now litems) (now lcoords) (now rstarts) (now ritems) (now rcoords) at ⌝ }
     requires { ⌜ Answering 0 (length (now litems)) (now items) (now dists) ⌝ }
+    requires { ⌜ BoxNoFarther (stemless k (now lstarts) (now litems) (now lcoords) (now rstarts) (now ritems) (now rcoords)) (pairAt at (boxesOf (now min) (now max))) ⌝ }
     ensures { λ r. ⌜ answers (now (items .exit)) (now (dists .exit)) ≡ update (stemless k (now (lstarts .entry)) (now (litems .entry)) (now (lcoords .entry)) (now (rstarts .entry)) (now (ritems .entry)) (now (rcoords .entry))) (answers (now (items .entry)) (now (dists .entry))) (pairAt at (boxesOf [] [])) ⌝ }
 {
     let l = at.left;
@@ -37,6 +42,9 @@ fn measure(
     let lend = cursor::start_of(lstarts, l.end);
     let rs = cursor::start_of(rstarts, r.first);
     let rend = cursor::start_of(rstarts, r.end);
+    if !gains(k, lcoords, litems.len(), ls, min, max, &dists[ls..lend]) {
+        return;
+    }
     leaf::nearest::update_leaf(
         k,
         litems,
@@ -52,7 +60,7 @@ fn measure(
     );
 }
 
-pub fn finish(
+pub fn finish<'a>(
     fate: Fate,
     k: usize,
     lstarts: &[u32],
@@ -62,6 +70,8 @@ pub fn finish(
     ritems: &[u32],
     rcoords: &[f64],
     at: Nodes,
+    min: &'a [f64; 8],
+    max: &'a [f64; 8],
     t: Tally,
     items: &mut [u32],
     dists: &mut [f64],
@@ -69,6 +79,7 @@ pub fn finish(
     requires { ⌜ Leaves k (now lstarts) (now litems) (now lcoords) (now rstarts) (now ritems) (now rcoords) at ⌝ }
     requires { ⌜ Answering 0 (length (now litems)) (now items) (now dists) ⌝ }
     requires { ⌜ FewPairs t ⌝ }
+    requires { ⌜ BoxNoFarther (stemless k (now lstarts) (now litems) (now lcoords) (now rstarts) (now ritems) (now rcoords)) (pairAt at (boxesOf (now min) (now max))) ⌝ }
     ensures { λ r. ⌜ heldOf r (now (items .exit)) (now (dists .exit)) ≡ after (stemless k (now (lstarts .entry)) (now (litems .entry)) (now (lcoords .entry)) (now (rstarts .entry)) (now (ritems .entry)) (now (rcoords .entry))) (fateOf fate) (pairAt at (boxesOf [] [])) (heldOf t (now (items .entry)) (now (dists .entry))) ⌝ }
 {
     let n = traversal::nodes::area(lstarts, rstarts, at);
@@ -83,6 +94,8 @@ pub fn finish(
                 ritems,
                 rcoords,
                 at,
+                min,
+                max,
                 &mut *items,
                 &mut *dists,
             );

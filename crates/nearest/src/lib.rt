@@ -21,6 +21,7 @@ use traversal::waiting::top_of;
 
 mod beginning;
 mod finish;
+mod gains;
 mod largest;
 mod moves;
 
@@ -75,6 +76,8 @@ fn walk<'a>(
                         ritems,
                         rcoords,
                         at,
+                        &b.min,
+                        &b.max,
                         t,
                         &mut *items,
                         &mut *dists,

@@ -4,7 +4,8 @@ ghost use lib.ListN.{length};
 ghost use Rattle.written.specs.Boxes.{upTo, under};
 ghost use Rattle.written.specs.Spacing.{radiusOf};
 ghost use Rattle.traversal.specs.Lent.{treesOf, roomsOf};
-ghost use Rattle.oulavisok.specs.Numbers.{numbers, PairsNumbers, CountsNumbers, withNumbers, withNumbersAndRooms};
+ghost use Rattle.nearest.specs.Lent.{nearRoomsOf};
+ghost use Rattle.oulavisok.specs.Numbers.{numbers, PairsNumbers, CountsNumbers, NearestNumbers, withNumbers, withNumbersAndRooms, withNumbersAndNearRooms};
 use join::Answer;
 
 // Side, number found, visits, measured, ruled out, taken whole.
@@ -154,6 +155,39 @@ pub extern "C" fn oul_counts_under<'a>(
         rstems,
         ritems,
         rcoords,
+    );
+    tell(a, &mut *answer)
+}
+
+#[no_mangle]
+pub extern "C" fn oul_nearest<'a>(
+    k: u32,
+    lstarts: &[u32],
+    lstems: &'a [f64],
+    litems: &[u32],
+    lcoords: &[f64],
+    rstarts: &[u32],
+    rstems: &'a [f64],
+    ritems: &[u32],
+    rcoords: &[f64],
+    items: &mut [u32],
+    dists: &mut [f64],
+    answer: &mut [u64; 6],
+) -> u32
+    ensures { λ r. ⌜ NearestNumbers (treesOf k (now (lstarts .entry)) (now (lstems .entry)) (now (litems .entry)) (now (lcoords .entry)) (now (rstarts .entry)) (now (rstems .entry)) (now (ritems .entry)) (now (rcoords .entry))) (nearRoomsOf (now (items .entry)) (now (dists .entry))) (withNumbersAndNearRooms r (now (answer .exit)) (now (items .exit)) (now (dists .exit))) ⌝ }
+{
+    let a = join::nearest(
+        k,
+        lstarts,
+        lstems,
+        litems,
+        lcoords,
+        rstarts,
+        rstems,
+        ritems,
+        rcoords,
+        &mut *items,
+        &mut *dists,
     );
     tell(a, &mut *answer)
 }

@@ -31,13 +31,13 @@ nan-right nan = (refl, refl, refl)
 nan-right (inf s) = (refl, refl, refl)
 nan-right (fin s m e) = (refl, refl, refl)
 
-le-known-l : (x y : Float) → T (le x y) → T (known x)
+pub le-known-l : (x y : Float) → T (le x y) → T (known x)
 unfolding le isNan
 le-known-l nan y h = h
 le-known-l (inf s) y h = tt
 le-known-l (fin s m e) y h = tt
 
-le-known-r : (x y : Float) → T (le x y) → T (known y)
+pub le-known-r : (x y : Float) → T (le x y) → T (known y)
 unfolding isNan
 le-known-r x nan h = subst T (nan-right x .2) h
 le-known-r x (inf t) h = tt

@@ -22,7 +22,7 @@ use Rattle.traversal.proofs.Visiting.{good-here, splits-here, axis-small, slot-
 use Rattle.traversal.proofs.Taking.{half-axis, half-slot, turn-to-half, side-axis, side-slot, turn-to-back, turn-over}
 use Rattle.nearest.specs.Held.{Held, heldOf, walked}
 use Rattle.nearest.proofs.Carrying.{begins, nearestWalk}
-use Rattle.nearest.proofs.Turning.{held-begun, tally-examined, leaves-here, held-here, splits-with, turn-finish, few-examined, unvisited-yet}
+use Rattle.nearest.proofs.Turning.{held-begun, tally-examined, leaves-here, held-here, box-here, splits-with, turn-finish, few-examined, unvisited-yet}
 use Rattle.nearest.proofs.walk.Statement.{statement}
 use Rattle.nearest.proofs.walk.Tie as tie
 
@@ -52,7 +52,7 @@ abbrev chose : tie.After-choose Inv-loop μ-loop → tie.After-visited Inv-loop 
 chose c = c .before .before .before .before .before
 
 abbrev ending : tie.After-finish Inv-loop μ-loop → tie.After-m Inv-loop μ-loop
-ending c = c .before .before .before .before
+ending c = c .before .before .before .before .before .before .before
 
 abbrev halved : tie.After-is-top Inv-loop μ-loop → tie.After-descend Inv-loop μ-loop
 halved c = c .before .before .before
@@ -105,13 +105,13 @@ enum-known-m : tie.Need-enum-known-m Inv-loop μ-loop
 enum-known-m c = search needs
 
 finish-requires : tie.Need-finish-requires Inv-loop μ-loop
-finish-requires c κs = let m = c .before .before .before in
+finish-requires c κs = let m = c .before .before .before .before .before .before in
     let h = m .before .before in
     let v = seen (chose h) in
     let l = v .before .loop in
     let i = l .inv in
     let g = at-hand (v .if1 .taken) (i .3) in
-    (leaves-here _ (i .0) (l .items) (l .dists) (i .2) g, (i .2, few-examined _ (i .0) g _ _ refl (chose h .visited .ensures)))
+    (leaves-here _ (i .0) (l .items) (l .dists) (i .2) g, (i .2, (few-examined _ (i .0) g _ _ refl (chose h .visited .ensures), box-here _ (i .0) (l .items) (l .dists) (i .2) g)))
 
 loop-less : tie.Need-loop-less Inv-loop μ-loop
 loop-less c = let f = c .before .before .before .before in

@@ -47,7 +47,7 @@ measure-requires c κs = search needs
 measured-requires : tie.Need-measured-requires
 measured-requires c κs =
     let s = c .before .before .before .before .before .before .before .before .before .before .before .before .before .before .before .before .before .before in
-    omega (arith, pairs-few s, c .before .before .before .before .before .before .before .before .before .area .ensures, s .pre .1 .1 .measured-few)
+    omega (arith, pairs-few s, c .before .before .before .before .before .before .before .before .before .area .ensures, s .pre .1 .1 .0 .measured-few)
 
 enum-told-2 : tie.Need-enum-told-2
 enum-told-2 c = search needs
@@ -55,7 +55,7 @@ enum-told-2 c = search needs
 ruled-out-requires : tie.Need-ruled-out-requires
 ruled-out-requires c κs =
     let s = c .before .before .before .before .before .before .before .before .before .before .before in
-    omega (arith, pairs-few s, c .before .before .area .ensures, s .pre .1 .1 .ruled-few)
+    omega (arith, pairs-few s, c .before .before .area .ensures, s .pre .1 .1 .0 .ruled-few)
 
 same-length : tie.Need-same-length
 same-length c = search needs

@@ -1,14 +1,17 @@
--- The places of both leaves are read; the left leaf's stretch of the answers comes back improved, and nothing else changed. Assumes nothing.
-use mathlib.Core.Path.{refl}
+-- The places of both leaves are read; where none can gain the answers stay, else the left leaf's stretch of the answers comes back improved, and nothing else changed. Assumes nothing.
+use mathlib.Core.Path.{refl, sym, _∙_}
 use mathlib.Core.List.{[]}
+use native.Mathlib.Omega.{arith}
+use borrow.Author.Tests.{not-true}
 use borrow.Author.Needs.{needs}
-use Rattle.written.specs.Boxes.{Trees}
+use Rattle.written.specs.Boxes.{Trees, Boxes}
 use Rattle.written.specs.NodePairs.{NodePair, area}
 use Rattle.metric.specs.Flat.{boxesOf}
 use Rattle.leaf.specs.Lent.{LeafPair}
 use Rattle.traversal.specs.Lent.{stemless}
 use Rattle.traversal.specs.Standing.{pairAt}
 use Rattle.traversal.proofs.Ended.{PlacesRead, leaves-read}
+use Rattle.nearest.proofs.NoGain.{length-lent, no-gain}
 use Rattle.nearest.proofs.Parts.{leaf-put-back}
 use Rattle.nearest.proofs.finish.measure.Statement.{statement}
 use Rattle.nearest.proofs.finish.measure.Tie as tie
@@ -21,15 +24,15 @@ begin c = c .before .before .before .before .before .before .before .before .bef
 abbrev lent : tie.After-start-of4 → Trees
 lent c = let a = begin c .args in stemless (a .k) (a .lstarts .now) (a .litems .now) (a .lcoords .now) (a .rstarts .now) (a .ritems .now) (a .rcoords .now)
 
-abbrev here : tie.After-start-of4 → NodePair
-here c = pairAt (begin c .args .at) (boxesOf [] [])
+abbrev here : tie.After-start-of4 → Boxes → NodePair
+here c b = pairAt (begin c .args .at) b
 
-read : (c : tie.After-start-of4) → PlacesRead (lent c) (here c) (area (lent c) (here c)) (c .before .before .before .start-of .result) (c .before .before .start-of2 .result) (c .before .start-of3 .result) (c .start-of4 .result)
-read c = record { pairs = refl; left-from = c .before .before .before .start-of .ensures; left-to = c .before .before .start-of2 .ensures; right-from = c .before .start-of3 .ensures; right-to = c .start-of4 .ensures }
+read : (c : tie.After-start-of4) (b : Boxes) → PlacesRead (lent c) (here c b) (area (lent c) (here c b)) (c .before .before .before .start-of .result) (c .before .before .start-of2 .result) (c .before .start-of3 .result) (c .start-of4 .result)
+read c b = record { pairs = refl; left-from = c .before .before .before .start-of .ensures; left-to = c .before .before .start-of2 .ensures; right-from = c .before .start-of3 .ensures; right-to = c .start-of4 .ensures }
 
 -- the leaf update can go over these places
 leaves : (c : tie.After-start-of4) → let a = begin c .args in LeafPair (a .k) (a .litems .now) (a .lcoords .now) (c .before .before .before .start-of .result) (c .before .before .start-of2 .result) (a .ritems .now) (a .rcoords .now) (c .before .start-of3 .result) (c .start-of4 .result)
-leaves c = leaves-read (lent c) (here c) (read c) (begin c .pre .0 .pair)
+leaves c = leaves-read (lent c) (here c (boxesOf [] [])) (read c (boxesOf [] [])) (begin c .pre .0 .pair)
 
 -- ---- the needs
 
@@ -44,6 +47,31 @@ start-of-requires-3 c κs = search needs
 
 start-of-requires-4 : tie.Need-start-of-requires-4
 start-of-requires-4 c κs = search needs
+
+mul-gains : tie.Need-mul-gains
+mul-gains c = search needs
+
+sub-gains : tie.Need-sub-gains
+sub-gains c = search needs
+
+part-gains-start : tie.Need-part-gains-start
+part-gains-start c = search needs
+
+part-gains-end : tie.Need-part-gains-end
+part-gains-end c = search needs
+
+gains-requires : tie.Need-gains-requires
+gains-requires c κs = search needs
+
+same-length : tie.Need-same-length
+same-length c = search needs
+
+returns : tie.Need-returns
+returns c =
+    let up = c .before .before .before .before in
+    let a = begin up .args in
+    let b = boxesOf (a .min .now) (a .max .now) in
+    no-gain (lent up) (here up b) (a .items .now) (a .dists .now) (read up b) (leaves up) (begin up .pre .1 .0) (boxesOf [] []) (begin up .pre .1 .1) (sym (c .before .gains .ensures) ∙ not-true (c .before .gains .result) (c .if1 .taken))
 
 mul-update-leaf : tie.Need-mul-update-leaf
 mul-update-leaf c = search needs
@@ -67,23 +95,32 @@ part-update-leaf-start-2 : tie.Need-part-update-leaf-start-2
 part-update-leaf-start-2 c = search needs
 
 part-update-leaf-end-2 : tie.Need-part-update-leaf-end-2
-part-update-leaf-end-2 c = search needs
+part-update-leaf-end-2 c =
+    let up = c .before .before .before .before .before in
+    omega (arith, leaves up .left .inside, begin up .pre .1 .0 .1)
 
 update-leaf-requires : tie.Need-update-leaf-requires
-update-leaf-requires c κs = search needs
-
-same-length : tie.Need-same-length
-same-length c = search needs
+update-leaf-requires c κs =
+    let up = c .before .before .before .before .before .before in
+    let a = begin up .args in
+    let held = begin up .pre .1 .0 in
+    let inside = leaves up .left .inside in
+    let from = up .before .before .before .start-of .result in
+    let to = up .before .before .start-of2 .result in
+    (leaves up, (length-lent (a .items .now) from to (held .0) inside, length-lent (a .dists .now) from to (held .1) inside))
 
 same-length-2 : tie.Need-same-length-2
 same-length-2 c = search needs
 
-returns : tie.Need-returns
-returns c =
-    let up = c .before .before .before .before .before .before .before in
+same-length-3 : tie.Need-same-length-3
+same-length-3 c = search needs
+
+returns-2 : tie.Need-returns-2
+returns-2 c =
+    let up = c .before .before .before .before .before .before .before .before .before .before .before in
     let a = begin up .args in
     let lent-last = c .before .before .before .before .update-leaf .last in
-    leaf-put-back (lent up) (here up) (a .items .now) (lent-last .1 .1 .1 .1 .1 .1 .1 .1 .1 .0) (a .dists .now) (lent-last .1 .1 .1 .1 .1 .1 .1 .1 .1 .1 .0) (up .before .before .before .start-of .result) (up .before .before .start-of2 .result) (up .before .start-of3 .result) (up .start-of4 .result) (read up) (leaves up) (begin up .pre .1) (c .before .before .before .items .given .0) (c .before .dists .given .0) (c .before .before .before .before .update-leaf .ensures)
+    leaf-put-back (lent up) (here up (boxesOf [] [])) (a .items .now) (lent-last .1 .1 .1 .1 .1 .1 .1 .1 .1 .0) (a .dists .now) (lent-last .1 .1 .1 .1 .1 .1 .1 .1 .1 .1 .0) (up .before .before .before .start-of .result) (up .before .before .start-of2 .result) (up .before .start-of3 .result) (up .start-of4 .result) (read up (boxesOf [] [])) (leaves up) (begin up .pre .1 .0) (c .before .before .before .items .given .0) (c .before .dists2 .given .0) (c .before .before .before .before .update-leaf .ensures)
 
 pub measure-spec : {M : Type 1} → statement M
 measure-spec =
@@ -93,6 +130,13 @@ measure-spec =
     start-of-requires-2
     start-of-requires-3
     start-of-requires-4
+    mul-gains
+    sub-gains
+    part-gains-start
+    part-gains-end
+    gains-requires
+    same-length
+    returns
     mul-update-leaf
     sub-update-leaf
     part-update-leaf-start
@@ -102,6 +146,6 @@ measure-spec =
     part-update-leaf-start-2
     part-update-leaf-end-2
     update-leaf-requires
-    same-length
     same-length-2
-    returns)
+    same-length-3
+    returns-2)
