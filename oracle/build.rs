@@ -29,6 +29,7 @@ const SOURCE: &[&str] = &[
 /// Copied files that get a driver of ours as a child module, because what the
 /// driver calls is visible from there only.
 const DRIVERS: &[(&str, &str)] = &[
+    ("kd_tree/query/tree/metric.rs", "src/metric_driver.rs"),
     ("kd_tree/query/tree/mod.rs", "src/driver.rs"),
     ("kd_tree/query/tree/nearest.rs", "src/nearest_driver.rs"),
 ];

@@ -1,7 +1,7 @@
 //! The joins of the Rattle library on trees prepared for both sides.
 
 use crate::trees::Tree;
-use oulavisok::{numbers, Rooms};
+use oulavisok::{numbers, NearestRooms, Rooms};
 
 fn lent<const K: usize>(tree: &Tree<K>) -> oulavisok::Tree<'_> {
     oulavisok::Tree {
@@ -51,4 +51,19 @@ pub fn counts<const K: usize, const EX: bool>(
         numbers::counts_up_to
     };
     found(call(K as u32, radius, lent(left), lent(right)))
+}
+
+/// The number of answers, unless something is refused.
+#[inline(always)]
+pub fn nearest<const K: usize>(
+    left: &Tree<K>,
+    right: &Tree<K>,
+    items: &mut [u32],
+    dists: &mut [f64],
+) -> Option<u64> {
+    let rooms = NearestRooms {
+        items,
+        distance: dists,
+    };
+    found(numbers::nearest(K as u32, lent(left), lent(right), rooms))
 }

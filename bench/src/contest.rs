@@ -10,6 +10,10 @@ use std::time::Instant;
 /// A pass of each side over the pool's entries, in the order given.
 pub trait Contest {
     fn entries(&self) -> usize;
+    /// The least number of rounds, where that asked for would take too long.
+    fn rounds(&self, asked: usize) -> usize {
+        asked
+    }
     /// Puts both sides back to where they begin; not timed.
     fn reset(&mut self);
     fn ours(&mut self, order: &[usize]) -> u64;
@@ -42,9 +46,10 @@ pub fn race(contest: &mut impl Contest, options: &Options, rng: &mut Rng) -> Tim
         rust: f64::INFINITY,
         wrong: !contest.agree(),
     };
+    let least = contest.rounds(options.rounds);
     let begin = Instant::now();
     let mut round = 0;
-    while round < options.rounds || begin.elapsed() < options.budget {
+    while round < least || begin.elapsed() < options.budget {
         rng.shuffle(&mut order);
         contest.reset();
         let (ours, rust) = if round % 2 == 0 {

@@ -1,7 +1,7 @@
 //! The table of whole joins.
 
 use crate::contest::{race, Times};
-use crate::joins::{Join, PairsJoin};
+use crate::joins::{Join, NearestJoin, PairsJoin};
 use crate::options::Options;
 use crate::table::deeper;
 use crate::trees::{Layout, Tree};
@@ -17,6 +17,7 @@ struct Row {
     neighbours: f64,
     pairs: Times,
     counts: Times,
+    nearest: Times,
 }
 
 /// What a row is about.
@@ -33,11 +34,11 @@ const HEAD: &str = "\
 
 Two trees of as many points. Rows: a lattice, the same on both sides, the radius one spacing. \
 Random: each side its own in the unit box, the radius of a ball that holds 6 points on average. \
-Neighbours: pairs found for each left point. Growth: time for each point beside that of the \
+Neighbours: pairs found for each left point. Nearest asks no radius. Growth: time for each point beside that of the \
 first number of points, ours / the Rust's.
 
-| K | layout | leaf | points | neighbours | pairs | counts | growth of pairs | growth of counts |
-|---|---|---|---|---|---|---|---|---|";
+| K | layout | leaf | points | neighbours | pairs | counts | nearest | growth of pairs | growth of counts | growth of nearest |
+|---|---|---|---|---|---|---|---|---|---|---|";
 
 /// Leaves that a lent tree may have.
 const MOST_LEAVES: usize = 4096;
@@ -79,13 +80,15 @@ impl JoinTable {
             Some(row) => {
                 row.pairs.merge(new.pairs);
                 row.counts.merge(new.counts);
+                row.nearest.merge(new.nearest);
             }
             None => self.rows.push(new),
         }
     }
 
     pub fn wrong(&self) -> bool {
-        self.rows.iter().any(|r| r.pairs.wrong || r.counts.wrong)
+        let wrong = |r: &Row| r.pairs.wrong || r.counts.wrong || r.nearest.wrong;
+        self.rows.iter().any(wrong)
     }
 
     pub fn print(&self) {
@@ -98,6 +101,7 @@ impl JoinTable {
         }
         self.print_worst("pairs", |row| &row.pairs);
         self.print_worst("counts", |row| &row.counts);
+        self.print_worst("nearest", |row| &row.nearest);
         println!();
     }
 
@@ -110,7 +114,7 @@ impl JoinTable {
             format!("{ours:.2} / {rust:.2}")
         };
         println!(
-            "| {} | {} | {} | {} | {:.1} | {} | {} | {} | {} |",
+            "| {} | {} | {} | {} | {:.1} | {} | {} | {} | {} | {} | {} |",
             row.about.k,
             row.about.layout.name(),
             row.about.leaf,
@@ -118,8 +122,10 @@ impl JoinTable {
             row.neighbours,
             ratio(&row.pairs),
             ratio(&row.counts),
+            ratio(&row.nearest),
             growth(|row| &row.pairs),
             growth(|row| &row.counts),
+            growth(|row| &row.nearest),
         );
     }
 
@@ -184,6 +190,7 @@ impl About {
             neighbours: join.rust_count() as f64 / self.points as f64,
             pairs: race(&mut PairsJoin::new(join), options, &mut rng),
             counts: race(&mut join, options, &mut rng),
+            nearest: race(&mut NearestJoin::new(&left, &right), options, &mut rng),
         }
     }
 }

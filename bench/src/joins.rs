@@ -1,5 +1,5 @@
 //! Whole joins: our public call, which checks both trees first, beside the
-//! Rust's `walk`.
+//! Rust's `walk` and `nearest::execute`.
 
 use crate::calls;
 use crate::contest::{Contest, Stored};
@@ -82,5 +82,52 @@ impl<const K: usize, const EX: bool> Contest for PairsJoin<'_, K, EX> {
         let (found, rust) = (self.ours(&[]), self.rust(&[]));
         let pairs = self.rust.iter().map(|(l, r, d)| (l, r, d.to_bits()));
         found == rust && self.ours.pairs(found).eq(pairs)
+    }
+}
+
+/// Nearest. The Rust allocates its answers in each call, ours fills what is lent.
+pub struct NearestJoin<'a, const K: usize> {
+    left: &'a Tree<K>,
+    right: &'a Tree<K>,
+    items: Vec<u32>,
+    dists: Vec<f64>,
+}
+
+impl<'a, const K: usize> NearestJoin<'a, K> {
+    pub fn new(left: &'a Tree<K>, right: &'a Tree<K>) -> Self {
+        let room = left.items().len();
+        NearestJoin {
+            left,
+            right,
+            items: vec![0; room],
+            dists: vec![0.0; room],
+        }
+    }
+}
+
+impl<const K: usize> Contest for NearestJoin<'_, K> {
+    fn entries(&self) -> usize {
+        1
+    }
+    /// A round over large trees takes about a second.
+    fn rounds(&self, asked: usize) -> usize {
+        let few = (100_000 / self.items.len()).max(2);
+        asked.min(few)
+    }
+    fn reset(&mut self) {}
+    fn ours(&mut self, _: &[usize]) -> u64 {
+        let (items, dists) = (&mut self.items, &mut self.dists);
+        calls::nearest::<K>(self.left, self.right, items, dists).unwrap_or(REFUSED)
+    }
+    fn rust(&mut self, _: &[usize]) -> u64 {
+        rust::walk_nearest::<K>(self.left.lent(), self.right.lent()).len() as u64
+    }
+    fn agree(&mut self) -> bool {
+        let found = self.ours(&[]);
+        let rust = rust::walk_nearest::<K>(self.left.lent(), self.right.lent());
+        let answers = self.items.iter().zip(&self.dists);
+        let ours = self.left.items().iter().zip(answers);
+        let ours = ours.map(|(left, (right, d))| (*left, *right, d.to_bits()));
+        found == rust.len() as u64 && ours.eq(rust.iter().map(|(l, r, d)| (l, r, d.to_bits())))
     }
 }

@@ -1,6 +1,6 @@
 //! Times our leaf loops against the Rust's `leaf_pair` and `update_leaf`, and
-//! our joins against its `walk`: the same leaves in the same memory, one
-//! process, by turns, minimum of many runs.
+//! our joins against its `walk` and `nearest::execute`: the same leaves in the
+//! same memory, one process, by turns, minimum of many runs.
 //!
 //!     cargo run --release -- [TABLE ..] [--k 1,2,3,4] [--sizes 8,16,32,100]
 //!                            [--points 1000,10000,65536]
@@ -16,8 +16,9 @@
 //! of its own collecting `Vec`, `--times` adds nanoseconds for each pair of
 //! points.
 //!
-//! Our join checks both trees in each call, the Rust's walk doesn't; the check
-//! is part of our time.
+//! Our join checks both trees in each call, the Rust's walks don't; the check
+//! is part of our time. Nearest asks no radius; the Rust allocates its answers
+//! in each call, ours fills buffers that are lent.
 //!
 //! The libraries are looked for as oracle/README.md says. Cells are our time
 //! divided by the Rust's: below 1 we are faster; runs of one build repeat to

@@ -1,7 +1,7 @@
 /*
- * Radius joins of two lent trees: pairs and counts, "up to" and "under" a
- * radius. A radius is a squared distance; oul_radius_of makes one of a length.
- * Distances are squared too.
+ * Joins of two lent trees: pairs and counts, "up to" and "under" a radius, and
+ * the nearest right point of each left one. A radius is a squared distance;
+ * oul_radius_of makes one of a length. Distances are squared too.
  *
  * Link with liboulavisok.a (`rt staticlib oulavisok` writes it, for x86-64).
  * The library allocates nothing, keeps nothing between calls and may be called
@@ -33,8 +33,9 @@ extern "C" {
 
 /*
  * Refusals 1 to 8 leave the rooms untouched, and nothing found and all totals
- * 0. Refusal 9 stores the first pairs that fit, in walk order, and tells the
- * number found and the totals of the whole walk.
+ * 0. So does refusal 9 of nearest, given before anything is done; refusal 9 of
+ * pairs stores the first pairs that fit, in walk order, and tells the number
+ * found and the totals of the whole walk.
  */
 enum {
     OUL_ANSWERED = 0,
@@ -48,8 +49,10 @@ enum {
     OUL_ORDER = 7,       /* a point of a node's left half is above the pivot, one
                             of its right half below it, or the pivot is +inf and
                             the right half holds a point */
-    OUL_ROOMS = 8,       /* the three rooms differ in length */
-    OUL_FULL = 9         /* more pairs pass than the rooms hold */
+    OUL_ROOMS = 8,       /* the rooms of one call differ in length */
+    OUL_FULL = 9         /* more pairs pass than the rooms hold; nearest: both
+                            trees hold points, and the rooms hold fewer answers
+                            than the left tree has points */
 };
 
 /*
@@ -82,9 +85,21 @@ typedef struct {
     size_t distance_len;
 } oul_rooms;
 
+/*
+ * Where nearest answers are stored, one for each left point, in place order:
+ * right item, squared distance. Of one length, and as with oul_rooms: nothing
+ * overlaps, and what lies beyond the left number is not touched.
+ */
+typedef struct {
+    uint32_t *items;
+    size_t items_len;
+    double *distance;
+    size_t distance_len;
+} oul_nearest_rooms;
+
 typedef struct {
     uint64_t side;        /* of the tree refused: 0 left, 1 right; 0 for 0, 1, 8, 9 */
-    uint64_t found;       /* pairs that pass, stored or not */
+    uint64_t found;       /* pairs that pass, stored or not; nearest: answers stored */
     uint64_t visits;      /* node pairs examined */
     uint64_t measured;    /* pairs of points measured */
     uint64_t ruled_out;   /* pairs of points ruled out with their nodes */
@@ -129,6 +144,14 @@ uint32_t oul_counts_under(
     const uint32_t *rstarts, size_t rstarts_len, const double *rstems, size_t rstems_len,
     const uint32_t *ritems, size_t ritems_len, const double *rcoords, size_t rcoords_len,
     uint64_t *answer);
+
+uint32_t oul_nearest(
+    uint32_t k,
+    const uint32_t *lstarts, size_t lstarts_len, const double *lstems, size_t lstems_len,
+    const uint32_t *litems, size_t litems_len, const double *lcoords, size_t lcoords_len,
+    const uint32_t *rstarts, size_t rstarts_len, const double *rstems, size_t rstems_len,
+    const uint32_t *ritems, size_t ritems_len, const double *rcoords, size_t rcoords_len,
+    uint32_t *items, size_t items_len, double *dists, size_t dists_len, uint64_t *answer);
 
 /* The radius of a length: r * r, rounded once, whatever r is. */
 double oul_radius_of(double r);
@@ -222,6 +245,24 @@ static inline uint32_t oul_join_counts_under(
 {
     uint64_t six[6];
     uint32_t refusal = oul_counts_under(k, radius, OUL_TREE_(left), OUL_TREE_(right), six);
+    *answer = oul_answer_(six);
+    return refusal;
+}
+
+/*
+ * For each left point, in place order, the nearest right item and its squared
+ * distance; of several that are equally near, the first that the walk measures.
+ * Where every distance overflows: item 0 and +inf. Item 0 may be a real one too.
+ * If a tree holds no points, nothing is stored and all six numbers are 0.
+ */
+static inline uint32_t oul_join_nearest(
+    uint32_t k, oul_tree left, oul_tree right, oul_nearest_rooms rooms, oul_answer *answer)
+{
+    uint64_t six[6];
+    uint32_t refusal = oul_nearest(
+        k, OUL_TREE_(left), OUL_TREE_(right),
+        oul_u32_room_(rooms.items, rooms.items_len), rooms.items_len,
+        oul_f64_room_(rooms.distance, rooms.distance_len), rooms.distance_len, six);
     *answer = oul_answer_(six);
     return refusal;
 }

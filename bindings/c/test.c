@@ -1,6 +1,7 @@
 /*
- * The stand examples of the scope paper (all but the nearest ones), each refusal
- * on either side, and the radius of a length. Exit status 1 at a difference.
+ * The stand examples of the scope paper, each refusal on either side, nearest
+ * in rooms of every length and of empty trees, and the radius of a length. Exit
+ * status 1 at a difference.
  */
 #include "oulavisok.h"
 
@@ -138,7 +139,92 @@ static void examples(void)
     expect("C3", n == 0 && stored(0, NULL) && told(t, 0, 1, 1, 0, 0));
 }
 
-/* Pairs and counts of two trees are refused under this number and side. */
+/* For nearest the rooms are `right` and `distance`. */
+static oul_nearest_rooms near_rooms(size_t room)
+{
+    oul_rooms all = rooms(room);
+    oul_nearest_rooms lent = {all.right, room, all.distance, room};
+    return lent;
+}
+
+typedef struct {
+    uint32_t item;
+    double distance;
+} closest;
+
+/* Whether the first places hold these answers and the others the pattern. */
+static int kept(size_t count, const closest *due)
+{
+    uint32_t r[ROOM];
+    double d[ROOM];
+    size_t i;
+    memset(r, 0xa5, sizeof r);
+    memset(d, 0xa5, sizeof d);
+    for (i = 0; i < count; i++) {
+        r[i] = due[i].item;
+        d[i] = due[i].distance;
+    }
+    return memcmp(r, right, sizeof r) == 0 && memcmp(d, distance, sizeof d) == 0;
+}
+
+static const closest a8[] = {{20, 16}, {21, 10}, {20, 10}, {21, 0}};
+static const closest b_near[] = {{3, 0}, {4, 0}};
+static const closest c1_near[] = {{6, 1}};
+static const closest c2_near[] = {{0, INFINITY}};
+
+static void nearest(void)
+{
+    static const uint32_t no_leaf[] = {0}, no_point[] = {0, 0, 0};
+    static const double any_pivot[] = {0, 0};
+    oul_tree empty[] = {
+        {no_leaf, 1, NULL, 0, NULL, 0, NULL, 0},
+        {no_point, 2, NULL, 0, NULL, 0, NULL, 0},
+        {no_point, 3, any_pivot, 2, NULL, 0, NULL, 0},
+    };
+    oul_nearest_rooms none = {NULL, 0, NULL, 0}, uneven;
+    oul_answer t;
+    uint32_t n;
+    size_t i, room;
+
+    for (room = 4; room <= ROOM; room++) {
+        n = oul_join_nearest(2, a_left, a_right, near_rooms(room), &t);
+        expect("A8", n == 0 && kept(4, a8) && told(t, 4, 3, 8, 0, 0));
+    }
+    n = oul_join_nearest(1, b_left, b_right, near_rooms(ROOM), &t);
+    expect("B, nearest", n == 0 && kept(2, b_near) && told(t, 2, 7, 3, 1, 0));
+    n = oul_join_nearest(1, at_zero, around, near_rooms(ROOM), &t);
+    expect("C1, nearest", n == 0 && kept(1, c1_near) && told(t, 1, 3, 2, 0, 0));
+    n = oul_join_nearest(1, far_left, away, near_rooms(ROOM), &t);
+    expect("C2, nearest", n == 0 && kept(1, c2_near) && told(t, 1, 1, 1, 0, 0));
+
+    for (room = 0; room < 4; room++) {
+        n = oul_join_nearest(2, a_left, a_right, near_rooms(room), &t);
+        expect("nearest, refusal 9", n == OUL_FULL && kept(0, NULL) && told(t, 0, 0, 0, 0, 0));
+    }
+    uneven = near_rooms(ROOM), uneven.items_len = ROOM - 1;
+    n = oul_join_nearest(2, a_left, a_right, uneven, &t);
+    expect("nearest, refusal 8", n == OUL_ROOMS && kept(0, NULL) && told(t, 0, 0, 0, 0, 0));
+    uneven = near_rooms(3), uneven.distance_len = 4;
+    n = oul_join_nearest(2, a_left, a_right, uneven, &t);
+    expect("nearest, 8 before 9", n == OUL_ROOMS && kept(0, NULL) && told(t, 0, 0, 0, 0, 0));
+
+    for (i = 0; i < LEN(empty); i++) {
+        n = oul_join_nearest(2, empty[i], a_right, near_rooms(ROOM), &t);
+        expect("nearest, left empty", n == 0 && kept(0, NULL) && told(t, 0, 0, 0, 0, 0));
+        n = oul_join_nearest(2, a_left, empty[i], near_rooms(ROOM), &t);
+        expect("nearest, right empty", n == 0 && kept(0, NULL) && told(t, 0, 0, 0, 0, 0));
+        near_rooms(0);
+        n = oul_join_nearest(2, a_left, empty[i], none, &t);
+        expect("nearest, no room needed", n == 0 && kept(0, NULL) && told(t, 0, 0, 0, 0, 0));
+        n = oul_join_nearest(2, empty[i], empty[i], none, &t);
+        expect("nearest, both empty", n == 0 && kept(0, NULL) && told(t, 0, 0, 0, 0, 0));
+        uneven = near_rooms(ROOM), uneven.items_len = 0;
+        n = oul_join_nearest(2, empty[i], a_right, uneven, &t);
+        expect("nearest, empty, 8", n == OUL_ROOMS && kept(0, NULL) && told(t, 0, 0, 0, 0, 0));
+    }
+}
+
+/* All five joins of two trees are refused under this number and side. */
 static void refused(uint32_t number, uint64_t side, uint32_t k, oul_tree l, oul_tree r)
 {
     oul_answer none = {side, 0, 0, 0, 0, 0}, t;
@@ -153,6 +239,10 @@ static void refused(uint32_t number, uint64_t side, uint32_t k, oul_tree l, oul_
     expect(name, n == number && memcmp(&t, &none, sizeof t) == 0);
     n = oul_join_counts_under(k, 10, l, r, &t);
     expect(name, n == number && memcmp(&t, &none, sizeof t) == 0);
+    n = oul_join_nearest(k, l, r, near_rooms(ROOM), &t);
+    expect(name, n == number && memcmp(&t, &none, sizeof t) == 0 && kept(0, NULL));
+    n = oul_join_nearest(k, l, r, near_rooms(1), &t);
+    expect(name, n == number && memcmp(&t, &none, sizeof t) == 0 && kept(0, NULL));
 }
 
 /* A tree refused stands left, then right. */
@@ -206,6 +296,7 @@ static void radii(void)
 int main(void)
 {
     examples();
+    nearest();
     refusals();
     radii();
     printf("%d cases, %d wrong\n", cases, wrong);

@@ -1,6 +1,6 @@
 //! The Rust over lent trees, with K and the edge given as values.
 
-use crate::rust::{self, Answers, Lent, Pairs};
+use crate::rust::{self, Answers, Lent, NearestWalk, Pairs};
 
 /// The four buffers of a lent tree.
 #[derive(Clone, Copy)]
@@ -154,6 +154,15 @@ pub fn nearest(k: u32, left: Tree, right: Tree) -> Vec<Pair> {
 
 fn nearest_k<const K: usize>(left: Tree, right: Tree) -> Vec<Pair> {
     rust::nearest::<K>(&left.lent(), &right.lent())
+}
+
+/// The same, with what the walk did: a metric that counts is asked.
+pub fn nearest_counted(k: u32, left: Tree, right: Tree) -> (Vec<Pair>, NearestWalk) {
+    by_k!(k, nearest_counted_k(left, right))
+}
+
+fn nearest_counted_k<const K: usize>(left: Tree, right: Tree) -> (Vec<Pair>, NearestWalk) {
+    rust::nearest_counted::<K>(&left.lent(), &right.lent())
 }
 
 /// The distance of place `p` on the left and place `q` on the right.

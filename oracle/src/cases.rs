@@ -1,7 +1,7 @@
 //! Pairs of trees to be joined, sound but for limits.
 
 use crate::lots::{self, Lot};
-use crate::points::{Kind, Source};
+use crate::points::{Kind, Source, SPACINGS};
 use crate::report::Report;
 use crate::shapes::{self, Shape};
 use crate::tally::Question;
@@ -68,6 +68,23 @@ impl Case {
         let kind = format!("{}, large", kind.name());
         let size = if vast { Size::Vast } else { Size::Ordinary };
         Self::grown(k, kind, [&source; 2], shapes, size, rng)
+    }
+
+    /// Both trees with as many points as there may be: the numbers of leaves and
+    /// K in turn.
+    pub fn full(number: u64, report: &mut Report, rng: &mut Rng) -> Self {
+        let k = 1 + number as usize % 4;
+        let turn = number as usize / 4 % 3;
+        let leaves = [[4096, 4096], [512, 4096], [4096, 64]][turn];
+        let kind = match rng.one_in(2) {
+            true => Kind::Lattice(rng.pick(&SPACINGS)),
+            false => Kind::Random,
+        };
+        let lines = [65_536, 256, 40, 16][k - 1];
+        let source = Source::new(kind, rng).over_lines(lines);
+        let shapes = leaves.map(|leaves| Shape::full(leaves, report));
+        let kind = format!("{}, 65,536 points each", kind.name());
+        Self::grown(k, kind, [&source; 2], shapes, Size::Vast, rng)
     }
 
     fn grown(

@@ -2,9 +2,10 @@
 //! `walk`, `nearest::execute`, `Bounds` and `accepts` can be seen.
 
 use super::leaf::leaf_pair;
-use super::metric::{self, Bounds};
+use super::metric::driver::{take, Counting};
+use super::metric::{self, Bounds, JoinMetric};
 use super::traversal::{self, Counter, Sink};
-use super::{nearest, Collector, PairQueryResult, WithDistances};
+use super::{nearest, Collector, PairQueryResult, TreeNearestQueryResult, WithDistances};
 use crate::dist::{DistanceMetricScalar, SquaredEuclidean};
 use crate::kd_tree::KdTreeAccessor;
 use crate::leaf_strategy::FlatVec;
@@ -149,14 +150,71 @@ pub fn walk_count<const K: usize, const EX: bool>(
     sink.0
 }
 
-/// The nearest walk over whole trees: left item, right item, distance.
+/// What the source's nearest walk returns, as it stands.
+pub struct Nearest(Vec<TreeNearestQueryResult<u32, u32, f64>>);
+
+impl Nearest {
+    /// Left item, right item, distance, in left place order.
+    pub fn iter(&self) -> impl Iterator<Item = (u32, u32, f64)> + '_ {
+        let tuple = |f: &TreeNearestQueryResult<_, _, _>| (f.left_item, f.right_item, f.distance);
+        self.0.iter().map(tuple)
+    }
+    pub fn len(&self) -> usize {
+        self.0.len()
+    }
+    pub fn is_empty(&self) -> bool {
+        self.0.is_empty()
+    }
+}
+
+fn nearest_by<const K: usize, D: JoinMetric<f64, Output = f64>>(
+    left: &Lent<K>,
+    right: &Lent<K>,
+) -> Nearest {
+    Nearest(nearest::execute::<_, _, D, K>(&left.0, &right.0))
+}
+
+/// The nearest walk over whole trees.
 #[inline(never)]
+pub fn walk_nearest<const K: usize>(left: &Lent<K>, right: &Lent<K>) -> Nearest {
+    nearest_by::<K, Metric>(left, right)
+}
+
+/// The same, copied: left item, right item, distance.
 pub fn nearest<const K: usize>(left: &Lent<K>, right: &Lent<K>) -> Vec<(u32, u32, f64)> {
-    let found = nearest::execute::<_, _, Metric, K>(&left.0, &right.0);
-    let tuple = found.iter();
-    tuple
-        .map(|f| (f.left_item, f.right_item, f.distance))
-        .collect()
+    walk_nearest(left, right).iter().collect()
+}
+
+/// What the source's nearest walk did, told by the metric that it asked.
+#[derive(Clone, Copy, Debug, PartialEq)]
+pub struct NearestWalk {
+    /// Node pairs visited; of these, those over leaves on both sides.
+    pub visits: u64,
+    pub bounded: u64,
+    /// Pairs of points measured.
+    pub measured: u64,
+}
+
+/// The same walk with a metric that counts.
+pub fn nearest_counted<const K: usize>(
+    left: &Lent<K>,
+    right: &Lent<K>,
+) -> (Vec<(u32, u32, f64)>, NearestWalk) {
+    take();
+    let found = nearest_by::<K, Counting>(left, right).iter().collect();
+    let asked = take();
+    let axes = K as u64;
+    // The root, and every half put aside; an empty tree has no visit.
+    let visits = match asked.bounds {
+        0 => 0,
+        _ => 1 + asked.halves,
+    };
+    let walk = NearestWalk {
+        visits,
+        bounded: asked.bounds / axes,
+        measured: asked.distances / axes,
+    };
+    (found, walk)
 }
 
 /// The distance of two points.

@@ -2,9 +2,10 @@
 //! and what the Rust has not, the tree check and the totals, with plain readings
 //! of the scope paper.
 //!
-//!     cargo run --release -- [--seed N] [--percent N]
+//!     cargo run --release -- [--seed N] [--percent N] [--only nearest]
 //!
-//! `--percent` makes more (or fewer) cases than the usual hundred. The exit
+//! `--percent` makes more (or fewer) cases than the usual hundred; `--only` runs
+//! one part: leaves, bounds, trees, joins, refusals, radii or nearest. The exit
 //! status is 1 at any difference.
 
 mod bounds;
@@ -12,6 +13,8 @@ mod cases;
 mod joins;
 mod leaves;
 mod lots;
+mod near_tally;
+mod nearest;
 mod points;
 mod radii;
 mod refusals;
@@ -19,6 +22,7 @@ mod report;
 mod rooms;
 mod rules;
 mod shapes;
+mod stands;
 mod tally;
 mod trees;
 
@@ -27,21 +31,35 @@ use report::Report;
 use std::process::ExitCode;
 
 fn main() -> ExitCode {
-    let Some((seed, percent)) = arguments() else {
-        eprintln!("arguments: [--seed N] [--percent N]");
+    let Some(asked) = arguments() else {
+        eprintln!("arguments: [--seed N] [--percent N] [--only PART]");
         return ExitCode::from(2);
     };
-    println!("seed {seed}");
-    let cases = |usual: u64| usual * percent / 100;
+    println!("seed {}", asked.seed);
     let mut report = Report::default();
     // Each part has a generator of its own, so that more cases in one leave
     // the others as they are.
-    leaves::compare(&mut report, &mut Rng::new(seed), cases(100_000));
-    bounds::compare(&mut report, &mut Rng::new(seed + 1), cases(200_000));
-    trees::compare(&mut report, &mut Rng::new(seed + 2), cases(40_000));
-    joins::compare(&mut report, &mut Rng::new(seed + 3), cases(22_000));
-    refusals::compare(&mut report, &mut Rng::new(seed + 4), cases(12_000));
-    radii::compare(&mut report, &mut Rng::new(seed + 5), cases(20_000));
+    let parts: [(&str, Compare, u64); 8] = [
+        ("leaves", leaves::compare, 100_000),
+        ("bounds", bounds::compare, 200_000),
+        ("trees", trees::compare, 40_000),
+        ("joins", joins::compare, 22_000),
+        ("refusals", refusals::compare, 12_000),
+        ("radii", radii::compare, 20_000),
+        ("nearest", nearest::compare, 22_000),
+        ("nearest", nearest::refused, 12_000),
+    ];
+    let known = |only: &String| parts.iter().any(|part| part.0 == only);
+    if !asked.only.iter().all(known) {
+        eprintln!("no such part");
+        return ExitCode::from(2);
+    }
+    for (seed, (part, compare, usual)) in (asked.seed..).zip(parts) {
+        if asked.only.as_deref().is_none_or(|only| only == part) {
+            let cases = usual * asked.percent / 100;
+            compare(&mut report, &mut Rng::new(seed), cases);
+        }
+    }
     report.print();
     if report.differences() == 0 {
         ExitCode::SUCCESS
@@ -50,16 +68,29 @@ fn main() -> ExitCode {
     }
 }
 
-fn arguments() -> Option<(u64, u64)> {
-    let (mut seed, mut percent) = (1, 100);
+type Compare = fn(&mut Report, &mut Rng, u64);
+
+struct Asked {
+    seed: u64,
+    percent: u64,
+    only: Option<String>,
+}
+
+fn arguments() -> Option<Asked> {
+    let mut asked = Asked {
+        seed: 1,
+        percent: 100,
+        only: None,
+    };
     let mut args = std::env::args().skip(1);
     while let Some(arg) = args.next() {
-        let number = args.next()?.parse().ok()?;
+        let value = args.next()?;
         match arg.as_str() {
-            "--seed" => seed = number,
-            "--percent" => percent = number,
+            "--seed" => asked.seed = value.parse().ok()?,
+            "--percent" => asked.percent = value.parse().ok()?,
+            "--only" => asked.only = Some(value),
             _ => return None,
         }
     }
-    Some((seed, percent))
+    Some(asked)
 }

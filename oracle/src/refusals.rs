@@ -19,7 +19,7 @@ pub fn compare(report: &mut Report, rng: &mut Rng, cases: u64) {
             },
             _ => damaged(Case::any(Size::Ordinary, report, rng), rng),
         };
-        match due(&case) {
+        match due_of(&case) {
             // The damage only seemed one.
             (0, _) => joins::sound(&case, report, rng),
             (number, side) => refused(&case, number, side, report, rng),
@@ -30,7 +30,7 @@ pub fn compare(report: &mut Report, rng: &mut Rng, cases: u64) {
 /// Sides damaged one after the other.
 const PLANS: [&[usize]; 6] = [&[0], &[1], &[1], &[0, 0], &[1, 1], &[0, 1]];
 
-fn damaged(mut case: Case, rng: &mut Rng) -> Case {
+pub fn damaged(mut case: Case, rng: &mut Rng) -> Case {
     case.kind = "several damages".into();
     let plan = rng.pick(&PLANS);
     for side in plan {
@@ -50,7 +50,7 @@ fn damaged(mut case: Case, rng: &mut Rng) -> Case {
 }
 
 /// The number and side due: the left wholly, then the right.
-fn due(case: &Case) -> (u32, u64) {
+pub fn due_of(case: &Case) -> (u32, u64) {
     match (
         rules::first_broken(&case.left),
         rules::first_broken(&case.right),

@@ -4,7 +4,7 @@
 use crate::report::same;
 use oracle::api::Pair;
 use oracle::ours::Out;
-use oulavisok::Rooms;
+use oulavisok::{NearestRooms, Rooms};
 use std::iter::repeat_n;
 
 /// Places on each side of what is lent.
@@ -81,6 +81,35 @@ impl Stored {
         let (left, right) = (due.iter().map(|p| p.0), due.iter().map(|p| p.1));
         self.left.holds(left, |a, b| a == b)
             && self.right.holds(right, |a, b| a == b)
+            && self.distance.holds(due.iter().map(|p| p.2), same)
+    }
+}
+
+/// The two buffers for nearest answers.
+pub struct Kept {
+    items: Room<u32>,
+    distance: Room<f64>,
+}
+
+impl Kept {
+    pub fn new(room: usize) -> Self {
+        Self::of_lengths([room; 2])
+    }
+    pub fn of_lengths([items, distance]: [usize; 2]) -> Self {
+        Kept {
+            items: Room::filled(items, 0xfeed_f00d),
+            distance: Room::filled(distance, 1e300),
+        }
+    }
+    pub fn rooms(&mut self) -> NearestRooms<'_> {
+        NearestRooms {
+            items: self.items.lent(),
+            distance: self.distance.lent(),
+        }
+    }
+    /// Whether the first places hold these answers and nothing else has changed.
+    pub fn hold(&self, due: &[Pair]) -> bool {
+        self.items.holds(due.iter().map(|p| p.1), |a, b| a == b)
             && self.distance.holds(due.iter().map(|p| p.2), same)
     }
 }

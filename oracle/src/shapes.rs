@@ -43,6 +43,11 @@ impl Shape {
         Self::drawn(name, sizes, report)
     }
 
+    /// 65,536 points in so many leaves.
+    pub fn full(leaves: usize, report: &mut Report) -> Self {
+        Self::drawn("65,536 points", vec![65_536 / leaves; leaves], report)
+    }
+
     /// One too many leaves, items or points of a leaf, or just not.
     pub fn limits(report: &mut Report, rng: &mut Rng) -> Self {
         Self::drawn("at the limits", trees::limits(rng), report)

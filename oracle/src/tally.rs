@@ -5,6 +5,7 @@
 use crate::lots::Lot;
 use crate::rules::levels;
 use oracle::rng::Rng;
+use std::ops::Range;
 
 #[derive(Clone, Copy)]
 pub struct Question<'a> {
@@ -29,7 +30,7 @@ pub struct Tally {
 }
 
 #[derive(Clone, Copy)]
-struct Node {
+pub struct Node {
     stem: usize,
     level: u32,
     levels_left: u32,
@@ -38,10 +39,10 @@ struct Node {
 }
 
 impl Node {
-    fn span(&self) -> usize {
+    pub fn span(&self) -> usize {
         self.end - self.first
     }
-    fn is_leaf(&self) -> bool {
+    pub fn is_leaf(&self) -> bool {
         self.levels_left == 0
     }
 }
@@ -51,16 +52,16 @@ type Sides = [(f64, f64); 4];
 
 /// A node of each tree and a box of each.
 #[derive(Clone, Copy)]
-struct At {
-    nodes: [Node; 2],
+pub struct At {
+    pub nodes: [Node; 2],
     boxes: [Sides; 2],
 }
 
-struct Split {
+pub struct Split {
     side: usize,
     axis: usize,
     /// Near, and far unless the pivot is +inf.
-    halves: [Option<At>; 2],
+    pub halves: [Option<At>; 2],
 }
 
 pub fn tally(question: &Question) -> Tally {
@@ -70,7 +71,7 @@ pub fn tally(question: &Question) -> Tally {
 }
 
 impl Question<'_> {
-    fn roots(&self) -> At {
+    pub fn roots(&self) -> At {
         let root = |tree: &Lot| Node {
             stem: 1,
             level: 0,
@@ -105,8 +106,13 @@ impl Question<'_> {
     }
 
     fn points(&self, at: At, side: usize) -> u64 {
+        self.places(at, side).len() as u64
+    }
+
+    /// The places under a node.
+    pub fn places(&self, at: At, side: usize) -> Range<usize> {
         let (node, starts) = (at.nodes[side], &self.trees[side].starts);
-        u64::from(starts[node.end] - starts[node.first])
+        starts[node.first] as usize..starts[node.end] as usize
     }
 
     fn beyond(&self, bound: f64) -> bool {
@@ -123,7 +129,7 @@ impl Question<'_> {
         }
     }
 
-    fn lower(&self, at: At) -> f64 {
+    pub fn lower(&self, at: At) -> f64 {
         let gap = |d: usize| {
             let (left, right) = (at.boxes[0][d], at.boxes[1][d]);
             match (left.1 < right.0, right.1 < left.0) {
@@ -152,7 +158,7 @@ impl Question<'_> {
     }
 
     /// The near and the far half of the side that is split, if a side is.
-    fn split(&self, at: At) -> Option<Split> {
+    pub fn split(&self, at: At) -> Option<Split> {
         let [left, right] = at.nodes;
         let side = match (left.is_leaf(), right.is_leaf()) {
             (true, true) => return None,

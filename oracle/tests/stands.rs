@@ -83,6 +83,22 @@ fn nearest_of_a() {
         (13, 21, 0.0),
     ];
     assert_eq!(api::nearest(2, A_LEFT, A_RIGHT), found);
+    nearest_did(2, A_LEFT, A_RIGHT, [3, 8]);
+}
+
+/// Visits and measured, told by the metric; the answers are the same.
+fn nearest_did(k: u32, left: Tree, right: Tree, [visits, measured]: [u64; 2]) {
+    let (found, walk) = api::nearest_counted(k, left, right);
+    assert_eq!(found, api::nearest(k, left, right));
+    assert_eq!((walk.visits, walk.measured), (visits, measured));
+}
+
+/// The right's near half is ruled out for the left's far one.
+#[test]
+fn nearest_of_b() {
+    let found = [(1, 3, 0.0), (2, 4, 0.0)];
+    assert_eq!(api::nearest(1, B_LEFT, B_RIGHT), found);
+    nearest_did(1, B_LEFT, B_RIGHT, [7, 3]);
 }
 
 #[test]
@@ -114,12 +130,14 @@ fn examples_of_c() {
     let left = line(&[1], &[0.0], &[]);
     let right = line(&[5, 6], &[-1.0, 1.0], &[0.0, 0.0]);
     assert_eq!(api::nearest(1, left, right), [(1, 6, 1.0)]);
+    nearest_did(1, left, right, [3, 2]);
     let pairs = api::walk_pairs(1, UP_TO, 1.0, left, right);
     assert_eq!(pairs, [(1, 5, 1.0), (1, 6, 1.0)]);
 
     let (far, away) = (line(&[1], &[-1e200], &[]), line(&[7], &[1e200], &[]));
     let inf = f64::INFINITY;
     assert_eq!(api::nearest(1, far, away), [(1, 0, inf)]);
+    nearest_did(1, far, away, [1, 1]);
     assert_eq!(api::walk_pairs(1, UP_TO, inf, far, away), [(1, 7, inf)]);
     assert_eq!(api::walk_pairs(1, UNDER, inf, far, away), []);
 

@@ -1,5 +1,6 @@
-//! Radius joins of two lent trees, by the proved library: which points of two
-//! maps lie within a radius of each other, and how many.
+//! Joins of two lent trees, by the proved library: which points of two maps lie
+//! within a radius of each other, and how many; and which point of the other map
+//! is nearest to each.
 //!
 //! A radius is a squared distance, as are the distances stored; [`radius_of`]
 //! makes a radius of a length. Trees are checked at each call, so no buffer can
@@ -49,6 +50,15 @@ pub struct Rooms<'a> {
     pub distance: &'a mut [f64],
 }
 
+/// Where nearest answers are stored, one for each left point, in place order:
+/// right items and squared distances, of one length. What lies beyond the left
+/// number is left as it is.
+#[derive(Debug)]
+pub struct NearestRooms<'a> {
+    pub items: &'a mut [u32],
+    pub distance: &'a mut [f64],
+}
+
 /// Stores the pairs whose squared distance is at most the radius, in walk
 /// order. K, from 1 to 4, is the number of axes.
 pub fn pairs_up_to(k: u32, radius: f64, left: Tree, right: Tree, rooms: Rooms) -> Outcome {
@@ -68,6 +78,28 @@ pub fn counts_up_to(k: u32, radius: f64, left: Tree, right: Tree) -> Outcome {
 /// How many pairs have a squared distance below the radius.
 pub fn counts_under(k: u32, radius: f64, left: Tree, right: Tree) -> Outcome {
     numbers::counts_under(k, radius, left, right).into()
+}
+
+/// Stores, for each point of the left tree in place order, the item of the right
+/// tree that is nearest, and its squared distance. Of several that are equally
+/// near it is the first that the walk measures. Where every distance overflows,
+/// item 0 and +inf are stored; item 0 may also be a real one.
+///
+/// The rooms must hold the left number: refusal 9 otherwise, an error here, with
+/// nothing stored. If a tree holds no points, nothing is stored and `found` is 0.
+///
+/// ```
+/// use oulavisok::{nearest, NearestRooms, Tree};
+///
+/// let this = Tree { starts: &[0, 2], stems: &[], items: &[1, 2], coords: &[0.0, 5.0] };
+/// let last = Tree { starts: &[0, 1], stems: &[], items: &[7], coords: &[3.0] };
+/// let (mut items, mut distance) = ([0; 2], [0.0; 2]);
+/// let rooms = NearestRooms { items: &mut items, distance: &mut distance };
+/// assert_eq!(nearest(1, this, last, rooms).unwrap().found, 2);
+/// assert_eq!((items, distance), ([7, 7], [9.0, 4.0]));
+/// ```
+pub fn nearest(k: u32, left: Tree, right: Tree, rooms: NearestRooms) -> Result<Answer, Refusal> {
+    Outcome::from(numbers::nearest(k, left, right, rooms)).complete()
 }
 
 /// The radius of a length: r * r, rounded once, whatever r is.

@@ -1,7 +1,7 @@
 //! The joins with their numbers as the library gives them: for those who
 //! compare numbers. [`Outcome::from`](crate::Outcome) reads them.
 
-use crate::{c, Rooms, Tree};
+use crate::{c, NearestRooms, Rooms, Tree};
 
 /// The refusal's number (0 for none), and the six numbers of the answer.
 #[derive(Clone, Copy, Debug, PartialEq, Eq)]
@@ -22,12 +22,11 @@ pub struct Numbers {
 
 /// Calls a function over two trees: what comes first, both trees, the rooms.
 macro_rules! join {
-    ($call:path, $k:expr, $radius:expr, $l:expr, $r:expr, ($($rooms:expr),*)) => {{
+    ($call:path, ($($first:expr),*), $l:expr, $r:expr, ($($rooms:expr),*)) => {{
         let mut six = [0; 6];
         let refusal = unsafe {
             $call(
-                $k,
-                $radius,
+                $($first,)*
                 $l.starts.as_ptr(),
                 $l.starts.len(),
                 $l.stems.as_ptr(),
@@ -68,7 +67,7 @@ pub fn pairs_up_to(k: u32, radius: f64, left: Tree, right: Tree, to: Rooms) -> N
         right: r,
         distance: d,
     } = to;
-    join!(c::oul_pairs_up_to, k, radius, left, right, (l, r, d))
+    join!(c::oul_pairs_up_to, (k, radius), left, right, (l, r, d))
 }
 
 /// Pairs whose squared distance is below the radius, in walk order.
@@ -78,15 +77,21 @@ pub fn pairs_under(k: u32, radius: f64, left: Tree, right: Tree, to: Rooms) -> N
         right: r,
         distance: d,
     } = to;
-    join!(c::oul_pairs_under, k, radius, left, right, (l, r, d))
+    join!(c::oul_pairs_under, (k, radius), left, right, (l, r, d))
 }
 
 /// How many pairs have a squared distance of at most the radius.
 pub fn counts_up_to(k: u32, radius: f64, left: Tree, right: Tree) -> Numbers {
-    join!(c::oul_counts_up_to, k, radius, left, right, ())
+    join!(c::oul_counts_up_to, (k, radius), left, right, ())
 }
 
 /// How many pairs have a squared distance below the radius.
 pub fn counts_under(k: u32, radius: f64, left: Tree, right: Tree) -> Numbers {
-    join!(c::oul_counts_under, k, radius, left, right, ())
+    join!(c::oul_counts_under, (k, radius), left, right, ())
+}
+
+/// The nearest right item of each left point, in left place order.
+pub fn nearest(k: u32, left: Tree, right: Tree, to: NearestRooms) -> Numbers {
+    let NearestRooms { items, distance } = to;
+    join!(c::oul_nearest, (k), left, right, (items, distance))
 }

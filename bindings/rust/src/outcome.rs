@@ -6,23 +6,25 @@ use std::fmt;
 /// What a walk found and counted. Totals are pairs of points, but for `visits`.
 #[derive(Clone, Copy, Debug, PartialEq, Eq)]
 pub struct Answer {
-    /// Pairs that pass, stored or not.
+    /// Pairs that pass, stored or not; of nearest, the answers stored.
     pub found: u64,
     /// Node pairs examined.
     pub visits: u64,
     pub measured: u64,
-    /// Under node pairs whose bound is beyond the radius.
+    /// Under node pairs whose bound is beyond the radius; of nearest, not below
+    /// the largest distance then held.
     pub ruled_out: u64,
     /// Counted with their node pair, not one by one.
     pub taken_whole: u64,
 }
 
-/// A tree, or the rooms, refused; nothing is stored.
+/// A tree, or the rooms, refused; nothing is stored, but for refusal 9 of pairs
+/// (see [`Outcome::complete`]).
 #[derive(Clone, Copy, Debug, PartialEq, Eq)]
 pub struct Refusal {
-    /// 1 to 8; the text of [`Refusal`] says what each means.
+    /// 1 to 9; the text of [`Refusal`] says what each means.
     pub number: u32,
-    /// The tree refused: 0 left, 1 right; 0 for numbers 1 and 8.
+    /// The tree refused: 0 left, 1 right; 0 for numbers 1, 8 and 9.
     pub side: u64,
 }
 
@@ -93,7 +95,7 @@ impl fmt::Display for Refusal {
             6 => write!(f, "{side} tree: a pivot over a leaf is NaN or -inf"),
             7 => write!(f, "{side} tree: a point is on the wrong side of a pivot"),
             8 => write!(f, "the rooms differ in length"),
-            9 => write!(f, "more pairs pass than the rooms hold"),
+            9 => write!(f, "the rooms are too small for what is found"),
             other => write!(f, "refusal {other}"),
         }
     }

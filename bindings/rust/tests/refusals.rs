@@ -1,5 +1,5 @@
-//! Each refusal on either side: its number and side, all other numbers 0, and
-//! the rooms untouched.
+//! Each refusal of pairs and counts on either side: its number and side, all
+//! other numbers 0, and the rooms untouched.
 
 mod rooms;
 

@@ -1,5 +1,5 @@
-//! The stand examples of the scope paper, all but the nearest ones, and the
-//! radius of a length.
+//! The stand examples of the scope paper, all but the nearest ones (`nearest.rs`
+//! has those), and the radius of a length.
 
 mod rooms;
 

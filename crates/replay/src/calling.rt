@@ -1,4 +1,4 @@
-// The four calls, by mode: modes 0 and 1 are pairs "up to" and "under", modes 2 and 3 counts.
+// The five calls, by mode: modes 0 and 1 are pairs "up to" and "under", modes 2 and 3 counts, mode 4 nearest.
 use join::Answer;
 
 // Pairs, into three rooms.
@@ -91,5 +91,34 @@ pub fn counts<'a>(
         rstems,
         ritems,
         rcoords,
+    )
+}
+
+// Nearest, into two rooms.
+pub fn nearest<'a>(
+    k: u32,
+    lstarts: &[u32],
+    lstems: &'a [f64],
+    litems: &[u32],
+    lcoords: &[f64],
+    rstarts: &[u32],
+    rstems: &'a [f64],
+    ritems: &[u32],
+    rcoords: &[f64],
+    items: &mut [u32],
+    dists: &mut [f64],
+) -> Answer {
+    join::nearest(
+        k,
+        lstarts,
+        lstems,
+        litems,
+        lcoords,
+        rstarts,
+        rstems,
+        ritems,
+        rcoords,
+        &mut *items,
+        &mut *dists,
     )
 }

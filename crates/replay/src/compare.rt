@@ -9,7 +9,7 @@ use crate::read::u32_at;
 use crate::read::u64_at;
 use join::Answer;
 
-// What the rooms are filled with before a call. No recorded item is this number, and no distance is negative.
+// What the rooms are filled with before a call. No recorded item is this number (a nearest answer has it for the left item, which has no room), and no distance is negative.
 pub const EMPTY: u32 = 0xe4e4_e4e4;
 
 pub const FAR: f64 = -12345.0;

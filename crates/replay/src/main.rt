@@ -4,6 +4,7 @@
 // A record, little-endian: job length u32 (at most 16,384), room u32 (at most 1,024), a buffer u32 and a length u32; the job; then the answer: number u32, side u32,
 // found u64, visits u64, measured u64, ruled out u64, whole u64; then the first pairs found, as many as the room holds: left u32, right u32, distance bits u64.
 // The job is as the job program reads it: KDJ, version u16 = 1, K, mode, a zero byte, radius f64, then both trees. A count's room is 0.
+// Nearest (mode 4) finds an answer for each left place: where a pair has its left item, an answer has the number that rooms are filled with.
 // Buffer 0 changes nothing. 1 to 4 (left starts, stems, items, coordinates), 5 to 8 (the right's) and 9 to 11 (the rooms for left items, right items, distances)
 // name one buffer that is lent at the length given, not at its own: so refusals 2, 3 and 8 come about, which no job can ask for.
 //

@@ -22,8 +22,8 @@ fn wide(n: u32) -> u64
 }
 
 // Over all kinds.
-fn sum(n: [u32; 5]) -> u64 {
-    wide(n[0]) + wide(n[1]) + wide(n[2]) + wide(n[3]) + wide(n[4])
+fn sum(n: [u32; 6]) -> u64 {
+    wide(n[0]) + wide(n[1]) + wide(n[2]) + wide(n[3]) + wide(n[4]) + wide(n[5])
 }
 
 // A line for each kind, and one for all.
@@ -34,6 +34,7 @@ pub fn lines(t: Tally) {
     line(b"pairs under: ", wide(joins[1]), wide(different[1]));
     line(b"counts up to: ", wide(joins[2]), wide(different[2]));
     line(b"counts under: ", wide(joins[3]), wide(different[3]));
-    line(b"unreadable: ", wide(joins[4]), wide(different[4]));
+    line(b"nearest: ", wide(joins[4]), wide(different[4]));
+    line(b"unreadable: ", wide(joins[5]), wide(different[5]));
     line(b"all: ", sum(joins), sum(different));
 }

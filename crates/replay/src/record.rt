@@ -6,6 +6,7 @@ ghost use Rattle.replay.specs.Framed.{Framed};
 ghost use Rattle.replay.specs.Lays.{Lays};
 ghost use Rattle.replay.specs.Fits.{Fits};
 use crate::calling::counts;
+use crate::calling::nearest;
 use crate::calling::pairs;
 use crate::compare::EMPTY;
 use crate::compare::FAR;
@@ -21,6 +22,7 @@ use crate::lengths::fits;
 use crate::lengths::own;
 use crate::lengths::sound;
 use crate::read::f64_at;
+use crate::read::u64_at;
 use crate::tally::Tally;
 use crate::tally::none;
 
@@ -31,37 +33,51 @@ fn small(b: u8) -> u32
     b as u32
 }
 
-// The mode of a job whose first 16 bytes are right, else 4.
+// Mode 4 has no radius: its bits are zero, else the job is none.
+fn nearest_kind(job: &[u8]) -> u32
+    requires { ⌜ 16 ≤ length (now job) ⌝ }
+    ensures { λ r. ⌜ r < 6 ⌝ }
+{
+    if u64_at(job, 8) == 0 {
+        return 4;
+    }
+    5
+}
+
+// The mode of a job whose first 16 bytes are right, else 5.
 fn kind(job: &[u8]) -> u32
-    ensures { λ r. ⌜ r < 5 ⌝ }
-    ensures { λ r. ⌜ (r < 4 → (16 ≤ length (now (job .entry))) × (length (now (job .entry)) ≤ 16384)) ⌝ }
+    ensures { λ r. ⌜ r < 6 ⌝ }
+    ensures { λ r. ⌜ (r < 5 → (16 ≤ length (now (job .entry))) × (length (now (job .entry)) ≤ 16384)) ⌝ }
 {
     if job.len() < 16 {
-        return 4;
+        return 5;
     }
     if 16384 < job.len() {
-        return 4;
+        return 5;
     }
     if job[0] != b'K' {
-        return 4;
+        return 5;
     }
     if job[1] != b'D' {
-        return 4;
+        return 5;
     }
     if job[2] != b'J' {
-        return 4;
+        return 5;
     }
     if job[3] != 1 {
-        return 4;
+        return 5;
     }
     if job[4] != 0 {
-        return 4;
+        return 5;
     }
     if job[7] != 0 {
-        return 4;
+        return 5;
     }
-    if 3 < job[6] {
-        return 4;
+    if 4 < job[6] {
+        return 5;
+    }
+    if job[6] == 4 {
+        return nearest_kind(job);
     }
     small(job[6])
 }
@@ -147,6 +163,46 @@ fn counts_same<'a>(
     found.len() == 0
 }
 
+// Nearest into rooms of the given lengths. There is no room for left items: a record has the filling there.
+fn nearest_same<'a>(
+    k: u32,
+    lstarts: &[u32],
+    lstems: &'a [f64],
+    litems: &[u32],
+    lcoords: &[f64],
+    rstarts: &[u32],
+    rstems: &'a [f64],
+    ritems: &[u32],
+    rcoords: &[f64],
+    y: usize,
+    z: usize,
+    answer: &[u8],
+    found: &[u8],
+) -> bool
+    requires { ⌜ (y ≤ 1025) × (z ≤ 1025) ⌝ }
+{
+    let none = [EMPTY; 1025];
+    let mut items = [EMPTY; 1025];
+    let mut dists = [FAR; 1025];
+    let a = nearest(
+        k,
+        lstarts,
+        lstems,
+        litems,
+        lcoords,
+        rstarts,
+        rstems,
+        ritems,
+        rcoords,
+        &mut items[..y],
+        &mut dists[..z],
+    );
+    if !crate::compare::answer(a, answer) {
+        return false;
+    }
+    crate::compare::rooms(found, &none, &items, &dists)
+}
+
 // The call by its mode, over lent buffers.
 fn called<'a>(
     mode: u32,
@@ -182,6 +238,23 @@ fn called<'a>(
             ritems,
             rcoords,
             x,
+            y,
+            z,
+            answer,
+            found,
+        );
+    }
+    if mode == 4 {
+        return nearest_same(
+            k,
+            lstarts,
+            lstems,
+            litems,
+            lcoords,
+            rstarts,
+            rstems,
+            ritems,
+            rcoords,
             y,
             z,
             answer,
@@ -299,11 +372,11 @@ fn counted(s: &[u8], f: Frame, t: Tally) -> Tally
     let c = f.pairs;
     let d = f.end;
     let mode = kind(&s[a..b]);
-    if mode < 4 {
+    if mode < 5 {
         let same = job_same(&s[a..b], mode, f.room, f.buffer, f.lent, &s[b..c], &s[c..d]);
         return t.counting(mode as usize, same);
     }
-    t.counting(4, false)
+    t.counting(5, false)
 }
 
 // All records of the input, one after the other.

@@ -1,16 +1,16 @@
-// How many joins of each kind were made, and how many differ. Kinds 0 to 3 are the modes; kind 4 is what no mode can be read of.
+// How many joins of each kind were made, and how many differ. Kinds 0 to 4 are the modes; kind 5 is what no mode can be read of.
 ghost use Prim.Native.Nat.{_<_};
 
 pub struct Tally {
-    pub joins: [u32; 5],
-    pub different: [u32; 5],
+    pub joins: [u32; 6],
+    pub different: [u32; 6],
 }
 
 // Nothing counted yet.
 pub fn none() -> Tally {
     Tally {
-        joins: [0; 5],
-        different: [0; 5],
+        joins: [0; 6],
+        different: [0; 6],
     }
 }
 
@@ -25,7 +25,7 @@ fn more(n: u32) -> u32 {
 impl Tally {
     // One join more, alike or different.
     pub fn counting(self, kind: usize, same: bool) -> Self
-        requires { ⌜ kind < 5 ⌝ }
+        requires { ⌜ kind < 6 ⌝ }
     {
         let mut t = self;
         t.joins[kind] = more(t.joins[kind]);

@@ -19,6 +19,10 @@ mod grow;
 #[allow(dead_code)]
 #[path = "../lots.rs"]
 mod lots;
+#[path = "record/nearest.rs"]
+mod nearest;
+#[path = "record/nearest_refused.rs"]
+mod nearest_refused;
 #[allow(dead_code)]
 #[path = "../points.rs"]
 mod points;
@@ -45,22 +49,29 @@ fn main() {
     let mut all = stands::all();
     cases::all(&mut all, &mut Rng::new(1));
     refused::all(&mut all, &mut Rng::new(2));
+    all.extend(stands::nearest());
+    nearest::all(&mut all, &mut Rng::new(3));
+    nearest_refused::all(&mut all, &mut Rng::new(4));
 
-    let (mut bytes, mut seen, mut joins) = (vec![], BTreeMap::new(), [0; 4]);
+    let (mut bytes, mut seen, mut joins) = (vec![], BTreeMap::new(), [0; 5]);
     let mut see = |what: String| *seen.entry(what).or_insert(0) += 1;
     for case in &all {
         let answer = expect::answer(case);
         bytes.extend(file::record(case, &answer));
         joins[case.mode as usize] += 1;
-        see(format!("kind: {}", case.kind));
-        see(format!("K {}", case.left.k));
-        see(format!("number {} side {}", answer.number, answer.side));
-        see(format!("radius: {}", radius(case.radius)));
-        if case.mode < 2 {
-            see(format!("room: {}", room(case, &answer)));
+        let which = if case.nearest() { "nearest, " } else { "" };
+        see(format!("{which}kind: {}", case.kind));
+        see(format!("{which}K {}", case.left.k));
+        let (number, side) = (answer.number, answer.side);
+        see(format!("{which}number {number} side {side}"));
+        if !case.nearest() {
+            see(format!("radius: {}", radius(case.radius)));
+        }
+        if !case.counting() {
+            see(format!("{which}room: {}", room(case, &answer)));
         }
         for what in features(case, &answer) {
-            see(format!("with {what}"));
+            see(format!("{which}with {what}"));
         }
     }
     assert!(bytes.len() < LIMIT, "{} bytes", bytes.len());
@@ -89,6 +100,7 @@ fn room(case: &Case, answer: &expect::Answer) -> &'static str {
         (9.., _, _) => "of different lengths",
         (_, 1..=7, _) => "any, the tree refused",
         (_, _, 0) => "none",
+        (_, 9, _) => "too small",
         (_, _, n) if n < answer.found => "too small",
         (_, _, n) if n == answer.found => "exact",
         _ => "larger",
@@ -137,8 +149,14 @@ fn features(case: &Case, answer: &expect::Answer) -> Vec<&'static str> {
 }
 
 /// What the program is to write.
-fn lines(joins: [u32; 4]) -> String {
-    let name = ["pairs up to", "pairs under", "counts up to", "counts under"];
+fn lines(joins: [u32; 5]) -> String {
+    let name = [
+        "pairs up to",
+        "pairs under",
+        "counts up to",
+        "counts under",
+        "nearest",
+    ];
     let mut text = String::new();
     for (name, joins) in name.iter().zip(joins) {
         text.push_str(&format!("{name}: joins {joins} different 0\n"));

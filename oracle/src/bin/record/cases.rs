@@ -32,7 +32,7 @@ pub fn all(cases: &mut Vec<Case>, rng: &mut Rng) {
     largest_leaf(cases, rng);
 }
 
-const KINDS: [(&str, Kind); 6] = [
+pub const KINDS: [(&str, Kind); 6] = [
     ("planted rows", Kind::Lattice(1.0)),
     ("random", Kind::Random),
     ("ties", Kind::Duplicates),
@@ -61,7 +61,7 @@ fn usual(cases: &mut Vec<Case>, round: usize, mode: u8, k: usize, rng: &mut Rng)
 
 /// Leaves of few points, some empty; leaf counts that are a power of two, and
 /// such that are not.
-fn sizes(rng: &mut Rng) -> Vec<usize> {
+pub fn sizes(rng: &mut Rng) -> Vec<usize> {
     let leaves = rng.pick(&[1, 1, 2, 2, 3, 3, 4, 4, 5, 5, 6, 7, 8, 9, 11]);
     let most = if leaves < 4 { 4 } else { 2 };
     (0..leaves).map(|_| rng.below(most + 1)).collect()

@@ -1,6 +1,6 @@
-//! The totals of the radius walk, read from the scope paper: by recursion over
-//! node pairs with boxes passed by value, where the Rust has a stack and puts
-//! box sides back.
+//! The totals of the radius walk and of the nearest walk, read from the scope
+//! paper: by recursion over node pairs with boxes passed by value, where the Rust
+//! has a stack and puts box sides back.
 
 use crate::lots::Lot;
 use crate::rules;
@@ -58,12 +58,16 @@ impl Node {
         ]
     }
     fn points(self, lot: &Lot) -> u64 {
-        u64::from(lot.starts[self.to] - lot.starts[self.from])
+        self.places(lot).len() as u64
+    }
+    fn places(self, lot: &Lot) -> std::ops::Range<usize> {
+        lot.starts[self.from] as usize..lot.starts[self.to] as usize
     }
 }
 
 /// For each side and axis: min and max.
 type Boxes = [[(f64, f64); 4]; 2];
+const EVERYWHERE: Boxes = [[(f64::NEG_INFINITY, f64::INFINITY); 4]; 2];
 
 struct Walk<'a> {
     lots: [&'a Lot; 2],
@@ -86,8 +90,7 @@ impl<'a> Walk<'a> {
         }
     }
     fn start(&mut self) {
-        let everywhere = [[(f64::NEG_INFINITY, f64::INFINITY); 4]; 2];
-        self.visit(self.lots.map(Node::root), everywhere);
+        self.visit(self.lots.map(Node::root), EVERYWHERE);
     }
 }
 
@@ -96,6 +99,29 @@ pub fn walk(left: &Lot, right: &Lot, radius: f64, under: bool, counting: bool) -
     (walk.radius, walk.under, walk.counting) = (radius, under, counting);
     walk.start();
     walk.counted
+}
+
+/// Right item and distance, in left place order.
+type Answers = Vec<(u32, f64)>;
+
+/// The nearest walk: its totals and its answers. Bounds are summed in the order
+/// of the axes given.
+pub fn nearest(
+    left: &Lot,
+    right: &Lot,
+    axes: impl Iterator<Item = usize> + Clone,
+) -> (Counted, Answers) {
+    let mut walk = Walk::new(left, right);
+    let mut answers = vec![];
+    if !left.items.is_empty() && !right.items.is_empty() {
+        answers.resize(left.items.len(), (0, f64::INFINITY));
+        let mut work = vec![(walk.lots.map(Node::root), EVERYWHERE)];
+        while let Some((at, boxes)) = work.pop() {
+            let bound = lower(&boxes, axes.clone());
+            work.extend(walk.nearer(at, boxes, bound, &mut answers));
+        }
+    }
+    (walk.counted, answers)
 }
 
 /// The lower and upper bounds that can be met, each with the value that a sum
@@ -128,27 +154,65 @@ impl Walk<'_> {
         } else if at[0].leaf() && at[1].leaf() {
             self.counted.measured += pairs;
         } else {
-            let right = at[0].leaf() || (!at[1].leaf() && at[1].span() > at[0].span());
-            self.split(usize::from(right), at, boxes);
+            for (at, boxes) in self.halves(at, boxes) {
+                self.visit(at, boxes);
+            }
         }
     }
 
     /// The near half with its max lowered, then the far half with its min raised.
-    fn split(&mut self, side: usize, at: [Node; 2], boxes: Boxes) {
+    fn halves(&self, at: [Node; 2], boxes: Boxes) -> Vec<([Node; 2], Boxes)> {
+        let right = at[0].leaf() || (!at[1].leaf() && at[1].span() > at[0].span());
+        let side = usize::from(right);
         let pivot = self.lots[side].stems[at[side].stem];
         let axis = (at[side].level % self.lots[side].k) as usize;
         let [near, far] = at[side].halves();
         let (min, max) = boxes[side][axis];
-        let mut go = |node, sides| {
+        let half = |node, sides| {
             let (mut at, mut boxes) = (at, boxes);
             at[side] = node;
             boxes[side][axis] = sides;
-            self.visit(at, boxes);
+            (at, boxes)
         };
-        go(near, (min, if pivot < max { pivot } else { max }));
+        let mut halves = vec![half(near, (min, if pivot < max { pivot } else { max }))];
         if pivot != f64::INFINITY {
-            go(far, (if pivot > min { pivot } else { min }, max));
+            halves.push(half(far, (if pivot > min { pivot } else { min }, max)));
         }
+        halves
+    }
+
+    /// One visit of the nearest walk; the last of what it leaves comes next.
+    fn nearer(
+        &mut self,
+        at: [Node; 2],
+        boxes: Boxes,
+        bound: f64,
+        answers: &mut Answers,
+    ) -> Vec<([Node; 2], Boxes)> {
+        self.counted.visits += 1;
+        let [left, right] = self.lots;
+        let pairs = at[0].points(left) * at[1].points(right);
+        let [mine, other] = [at[0].places(left), at[1].places(right)];
+        let worst = answers[mine.clone()].iter().map(|a| a.1);
+        let largest = worst.fold(0.0, |most, x| if x > most { x } else { most });
+        if at[0].span() == 0 || at[1].span() == 0 || bound >= largest {
+            self.counted.ruled += pairs;
+            self.counted.nodes_ruled += 1;
+            return vec![];
+        }
+        if !at[0].leaf() || !at[1].leaf() {
+            return self.halves(at, boxes);
+        }
+        self.counted.measured += pairs;
+        for p in mine {
+            for q in other.clone() {
+                let distance = distance(left, p, right, q);
+                if distance < answers[p].1 {
+                    answers[p] = (right.items[q], distance);
+                }
+            }
+        }
+        vec![]
     }
 
     /// NaN rules nothing out.

@@ -6,12 +6,15 @@
 //! | found, the pairs, their order and bits | the Rust's own walk |
 //! | visits, measured | the counters in the Rust's walk |
 //! | ruled out, whole | `count.rs`, read from the scope paper |
+//! | nearest: the answers and their bits | the Rust's own `nearest::execute` |
+//! | nearest: visits, measured | what that walk asked of a metric that counts |
+//! | nearest: ruled out | `count.rs` |
 //!
 //! `count.rs` must agree with every counter of the Rust, and a measurement of
-//! all against all must find the same pairs.
+//! all against all must find the same pairs, or the same smallest distances.
 
 use crate::count::{self, Counted};
-use crate::file::Case;
+use crate::file::{Case, EMPTY};
 use crate::lots::Lot;
 use crate::rules;
 use oracle::api::{self, Pair};
@@ -42,14 +45,64 @@ pub fn answer(case: &Case) -> Answer {
             };
         }
     }
-    let rooms = case.rooms();
-    if !case.counting() && rooms.iter().any(|room| *room != rooms[0]) {
+    if case.rooms_differ() {
         return Answer {
             number: 8,
             ..Answer::default()
         };
     }
+    if case.nearest() {
+        return nearest(case, &left, &right);
+    }
     walked(case, &left, &right)
+}
+
+fn nearest(case: &Case, left: &Lot, right: &Lot) -> Answer {
+    let found = api::nearest(left.k, left.rust(), right.rust());
+    if found.len() > case.room as usize {
+        return Answer {
+            number: 9,
+            ..Answer::default()
+        };
+    }
+    let (again, walk) = api::nearest_counted(left.k, left.rust(), right.rust());
+    let (own, answers) = count::nearest(left, right, 0..left.k as usize);
+    let stored: Vec<Pair> = found.iter().map(|f| (EMPTY, f.1, f.2)).collect();
+    let counted: Vec<Pair> = answers.iter().map(|a| (EMPTY, a.0, a.1)).collect();
+    assert_eq!(bits(&again), bits(&found), "{}", case.kind);
+    assert_eq!(bits(&counted), bits(&stored), "{}", case.kind);
+    assert_eq!((own.visits, own.measured), (walk.visits, walk.measured));
+    let points = (left.items.len() * right.items.len()) as u64;
+    assert_eq!(own.measured + own.ruled, points);
+    smallest(left, right, &found);
+    Answer {
+        found: found.len() as u64,
+        visits: own.visits,
+        measured: own.measured,
+        ruled: own.ruled,
+        stored,
+        ..Answer::default()
+    }
+}
+
+fn bits(pairs: &[Pair]) -> Vec<(u32, u32, u64)> {
+    let bits = |(l, r, d): &Pair| (*l, *r, d.to_bits());
+    pairs.iter().map(bits).collect()
+}
+
+/// Each answer is for the left item at its place; its distance is the smallest
+/// of all, and an item at that distance is its item, but for overflow.
+fn smallest(left: &Lot, right: &Lot, found: &[Pair]) {
+    for (p, (item, near, distance)) in found.iter().enumerate() {
+        let all = (0..right.items.len()).map(|q| (q, count::distance(left, p, right, q)));
+        let least = all.clone().fold(f64::INFINITY, |m, (_, x)| m.min(x));
+        let mut at_it = all.filter(|(_, x)| x == distance);
+        assert_eq!((*item, *distance), (left.items[p], least));
+        assert!(match least == f64::INFINITY {
+            true => *near == 0,
+            false => at_it.any(|(q, _)| right.items[q] == *near),
+        });
+    }
 }
 
 fn walked(case: &Case, left: &Lot, right: &Lot) -> Answer {
@@ -109,10 +162,7 @@ fn all_against_all(case: &Case, left: &Lot, right: &Lot, found: usize, pairs: &[
     }
     assert_eq!(due.len(), found, "{}", case.kind);
     if !case.counting() {
-        let mut pairs: Vec<_> = pairs
-            .iter()
-            .map(|(l, r, d)| (*l, *r, d.to_bits()))
-            .collect();
+        let mut pairs = bits(pairs);
         pairs.sort_unstable();
         due.sort_unstable();
         assert!(pairs == due, "{}", case.kind);

@@ -3,6 +3,9 @@
 use crate::expect::Answer;
 use crate::lots::Lot;
 
+/// The mode of a nearest job; its radius is 0.
+pub const NEAREST: u8 = 4;
+
 /// One join. The trees are as the job says; one of the eleven buffers (1 to 8
 /// the trees', 9 to 11 the rooms) may be lent at another length.
 pub struct Case {
@@ -21,7 +24,10 @@ impl Case {
         self.mode % 2 == 1
     }
     pub fn counting(&self) -> bool {
-        self.mode >= 2
+        self.mode == 2 || self.mode == 3
+    }
+    pub fn nearest(&self) -> bool {
+        self.mode == NEAREST
     }
     /// The trees as they are lent: cut, or lengthened by zeros.
     pub fn lent(&self) -> (Lot, Lot) {
@@ -41,17 +47,24 @@ impl Case {
         }
         (left, right)
     }
-    /// The lengths of the three rooms.
-    pub fn rooms(&self) -> [u32; 3] {
+    /// Whether the rooms are of different lengths: three of pairs, two of
+    /// nearest, none of counts.
+    pub fn rooms_differ(&self) -> bool {
         let mut rooms = [self.room; 3];
         if self.buffer >= 9 {
             rooms[self.buffer as usize - 9] = self.lent;
         }
-        rooms
+        let asked = match (self.counting(), self.nearest()) {
+            (true, _) => &[],
+            (_, true) => &rooms[1..],
+            _ => &rooms[..],
+        };
+        asked.iter().any(|room| *room != asked[0])
     }
 }
 
-/// What rooms are filled with before the call; no item may be this.
+/// What rooms are filled with before the call; no item may be this. Nearest has
+/// no room for left items: an answer has this in their place.
 pub const EMPTY: u32 = 0xe4e4_e4e4;
 
 pub fn record(case: &Case, answer: &Answer) -> Vec<u8> {
@@ -74,7 +87,7 @@ pub fn record(case: &Case, answer: &Answer) -> Vec<u8> {
         out.extend(x.to_le_bytes());
     }
     for (left, right, distance) in &answer.stored {
-        assert!(*left != EMPTY && *right != EMPTY);
+        assert!((*left == EMPTY) == case.nearest() && *right != EMPTY);
         out.extend(left.to_le_bytes());
         out.extend(right.to_le_bytes());
         out.extend(distance.to_bits().to_le_bytes());
@@ -84,6 +97,7 @@ pub fn record(case: &Case, answer: &Answer) -> Vec<u8> {
 
 fn job(case: &Case) -> Vec<u8> {
     let k = u8::try_from(case.left.k).unwrap();
+    assert!(!case.nearest() || case.radius.to_bits() == 0);
     let mut out = b"KDJ\x01\x00".to_vec();
     out.extend([k, case.mode, 0]);
     out.extend(case.radius.to_bits().to_le_bytes());

@@ -1,7 +1,7 @@
 //! Joins that are refused, or nearly: trees damaged in one rule or two, on
 //! either side, and rooms of different lengths.
 
-use crate::file::Case;
+use crate::file::{Case, NEAREST};
 use crate::grow;
 use crate::lots::Lot;
 use crate::points::{Kind, Source};
@@ -32,11 +32,7 @@ pub fn all(cases: &mut Vec<Case>, rng: &mut Rng) {
     }
     for (number, (tree, buffer, lent)) in LENGTHS.into_iter().enumerate() {
         let mode = (number / 2 + number) % 4;
-        let mut case = sound(mode as u8, 1 + rng.below(4), rng);
-        case.buffer = 4 * tree + buffer;
-        case.lent = changed(&case, buffer, lent);
-        case.kind = "tree lent at other lengths";
-        cases.push(case);
+        cases.push(lent_at(tree, buffer, lent, mode as u8, rng));
     }
     several(cases, rng);
     rooms(cases, rng);
@@ -44,12 +40,15 @@ pub fn all(cases: &mut Vec<Case>, rng: &mut Rng) {
 }
 
 /// Trees of a few leaves on a lattice, all with points, two levels at least.
-fn sound(mode: u8, k: usize, rng: &mut Rng) -> Case {
+pub fn sound(mode: u8, k: usize, rng: &mut Rng) -> Case {
     let source = Source::new(Kind::Lattice(1.0), rng);
     let left = grow::tree(k, &[2, 1, 2], &source, 100, rng);
     let right = grow::tree(k, &[1, 2, 1, 1, 1], &source, 200, rng);
-    let room = if mode < 2 { 30 } else { 0 };
-    let radius = rng.pick(&[0.0, 1.0, 4.0, f64::INFINITY]);
+    let (room, radius) = match mode {
+        NEAREST => (30, 0.0),
+        0 | 1 => (30, rng.pick(&RADII)),
+        _ => (0, rng.pick(&RADII)),
+    };
     Case {
         kind: "damaged tree",
         mode,
@@ -62,10 +61,12 @@ fn sound(mode: u8, k: usize, rng: &mut Rng) -> Case {
     }
 }
 
-type Damage = fn(&mut Lot, &mut Rng);
+const RADII: [f64; 4] = [0.0, 1.0, 4.0, f64::INFINITY];
+
+pub type Damage = fn(&mut Lot, &mut Rng);
 
 /// The last five leave the tree sound: what looks like a damage is none.
-const DAMAGES: [Damage; 21] = [
+pub const DAMAGES: [Damage; 21] = [
     |lot, _| lot.starts[0] = 1,
     |lot, _| lot.starts.swap(1, 2),
     |lot, _| *lot.starts.last_mut().unwrap() += 1,
@@ -116,7 +117,7 @@ fn highest(list: &[f64]) -> f64 {
 }
 
 /// Rule 1, on trees that would be sound with as many coordinates.
-fn other_axes(k: u32, mode: u8, rng: &mut Rng) -> Case {
+pub fn other_axes(k: u32, mode: u8, rng: &mut Rng) -> Case {
     let mut case = sound(mode, 1, rng);
     for (side, lot) in [&mut case.left, &mut case.right].into_iter().enumerate() {
         let n = if k == 255 { side } else { 2 };
@@ -134,7 +135,7 @@ fn other_axes(k: u32, mode: u8, rng: &mut Rng) -> Case {
 
 /// A length that a buffer is lent at.
 #[derive(Clone, Copy)]
-enum Length {
+pub enum Length {
     At(u32),
     More,
     Fewer,
@@ -142,7 +143,7 @@ enum Length {
 use Length::{At, Fewer, More};
 
 /// Tree, buffer of the tree, its length: rules 2 and 3, and what they just allow.
-const LENGTHS: [(u32, u32, Length); 24] = [
+pub const LENGTHS: [(u32, u32, Length); 24] = [
     (0, 1, At(0)),
     (1, 1, At(0)),
     (0, 1, At(4098)),
@@ -168,6 +169,14 @@ const LENGTHS: [(u32, u32, Length); 24] = [
     (0, 1, More),
     (1, 1, At(1)),
 ];
+
+pub fn lent_at(tree: u32, buffer: u32, lent: Length, mode: u8, rng: &mut Rng) -> Case {
+    let mut case = sound(mode, 1 + rng.below(4), rng);
+    case.buffer = 4 * tree + buffer;
+    case.lent = changed(&case, buffer, lent);
+    case.kind = "tree lent at other lengths";
+    case
+}
 
 fn changed(case: &Case, buffer: u32, length: Length) -> u32 {
     let lot = if case.buffer <= 4 {

@@ -1,6 +1,6 @@
-//! The stand examples A1 to A7, A9, B1 to B3, C2, C3 and the pairs of C1.
+//! The stand examples A1 to A9, B1 to B3, C1 to C3; and nearest over B's trees.
 
-use crate::file::Case;
+use crate::file::{Case, NEAREST};
 use crate::lots::Lot;
 
 fn lot(k: u32, starts: &[u32], stems: &[f64], items: &[u32], coords: &[f64]) -> Lot {
@@ -59,7 +59,22 @@ pub fn all() -> Vec<Case> {
         (tenth, 0, 0.01, 1),
         (c1(), 0, 1.0, 2),
     ];
-    let case = |([left, right], mode, radius, room): ([Lot; 2], u8, f64, u32)| Case {
+    list.into_iter().map(case).collect()
+}
+
+/// A8, C1, C2, and the trees of B.
+pub fn nearest() -> Vec<Case> {
+    let list = [
+        (a(), NEAREST, 0.0, 4),
+        (c1(), NEAREST, 0.0, 1),
+        (two(1, -1e200, 7, 1e200), NEAREST, 0.0, 1),
+        (b(), NEAREST, 0.0, 2),
+    ];
+    list.into_iter().map(case).collect()
+}
+
+fn case(([left, right], mode, radius, room): ([Lot; 2], u8, f64, u32)) -> Case {
+    Case {
         kind: "stand example",
         mode,
         radius,
@@ -68,6 +83,5 @@ pub fn all() -> Vec<Case> {
         room,
         buffer: 0,
         lent: 0,
-    };
-    list.into_iter().map(case).collect()
+    }
 }

@@ -1,7 +1,7 @@
 -- What is left of the distances decides as all of them do, until one is above the bound. Assumes nothing.
 use mathlib.Core.Path.{_≡_, refl, sym, _∙_}
 use mathlib.Core.Bool.{true, false}
-use Prim.Native.Nat.{_-_, _≤_}
+use Prim.Native.Nat.{_-_}
 use native.Mathlib.Omega.{arith}
 use lib.ListN.{length, drop}
 use lib.Ieee.{ofBits}
@@ -12,13 +12,13 @@ use Rattle.nearest.proofs.largest.not_below.Statement.{statement}
 use Rattle.nearest.proofs.largest.not_below.Tie as tie
 
 abbrev Inv-loop : tie.InvT-loop
-Inv-loop dists bound i₀ i = (i ≤ length dists) × (noneAbove bound (drop i dists) ≡ noneAbove bound dists)
+Inv-loop dists bound i₀ i = noneAbove bound (drop i dists) ≡ noneAbove bound dists
 
 abbrev μ-loop : tie.MeasureT-loop
 μ-loop dists bound i₀ i = length dists - i
 
 loop-holds : tie.Need-loop-holds Inv-loop μ-loop
-loop-holds c = (omega arith, refl)
+loop-holds c = refl
 
 mul-if1 : tie.Need-mul-if1 Inv-loop μ-loop
 mul-if1 c = search needs
@@ -30,7 +30,7 @@ returns : tie.Need-returns Inv-loop μ-loop
 returns c =
     let w = c .before .before .before .loop in
     let a = c .before .before .before .before .args in
-    let above : noneAbove (a .bound) (now (a .dists)) ≡ false = sym (w .inv .1) ∙ one-above (a .bound) (now (a .dists)) (w .i) (omega arith) (c .if1 .taken) in
+    let above : noneAbove (a .bound) (now (a .dists)) ≡ false = sym (w .inv) ∙ one-above (a .bound) (now (a .dists)) (w .i) (omega arith) (c .if1 .taken) in
     sym (below-is (a .bound) (now (a .dists)) above)
 
 add-i : tie.Need-add-i Inv-loop μ-loop
@@ -43,14 +43,14 @@ loop-again : tie.Need-loop-again Inv-loop μ-loop
 loop-again c =
     let w = c .before .before .before .loop in
     let a = c .before .before .before .before .args in
-    (omega arith, next-not-above (a .bound) (now (a .dists)) (w .i) (omega arith) (c .if1 .left) ∙ w .inv .1)
+    next-not-above (a .bound) (now (a .dists)) (w .i) (omega arith) (c .if1 .left) ∙ w .inv
 
 returns-2 : tie.Need-returns-2 Inv-loop μ-loop
 unfolding ofBits
 returns-2 c =
     let w = c .before .loop in
     let a = c .before .before .args in
-    let none : noneAbove (a .bound) (now (a .dists)) ≡ true = sym (w .inv .1) ∙ none-left (a .bound) (now (a .dists)) (w .i) (omega arith) in
+    let none : noneAbove (a .bound) (now (a .dists)) ≡ true = sym (w .inv) ∙ none-left (a .bound) (now (a .dists)) (w .i) (omega arith) in
     sym (not-below-is (a .bound) (now (a .dists)) none)
 
 pub not-below-spec : {M : Type 1} → statement M
