@@ -5,18 +5,20 @@ use mathlib.Core.Bool.{false}
 use Prim.Native.Nat.{ℕ, zero, suc, _+_, _*_, _≤_, _<_}
 use native.Mathlib.Nat.{zero-add}
 use native.Mathlib.Omega.{arith}
+use lib.ListN.{replicate}
+use Rattle.written.specs.LentTree.{places}
 use Rattle.written.specs.Boxes.{Trees}
 use Rattle.written.specs.Visits.{Fate, measured, ruled, whole, is, Step, ends, goes, forks, Run, stop, one, two, Seen, seen, visits, sum, carries, carry}
 use Rattle.written.specs.NodePairs.{NodePair, rootPair, leftPart, rightPart, area}
-use Rattle.written.specs.Nearest.{Neighbour, nearStep, update, nearWalk, noPoints, nearest}
-use Rattle.written.specs.Totals.{Totals, none, nearTotals}
+use Rattle.written.specs.Nearest.{Neighbour, unset, nearStep, update, nearWalk, noPoints, nearest}
+use Rattle.written.specs.Totals.{Totals, none, totalsOf, nearTotals}
 use Rattle.written.specs.Laws.Walks.{Onward}
 use Rattle.written.specs.Laws.RadiusWalk.{Good}
 use Rattle.traversal.specs.Work.{visited, adding}
 use Rattle.traversal.proofs.Halves.{farFirst}
 use Rattle.traversal.proofs.Through.{ofFate, some-visits}
 use Rattle.traversal.proofs.Pending.{levelsLeft, OnwardFrom, Walk}
-use Rattle.nearest.specs.Held.{Held, after, visitTotals, unvisited, walked}
+use Rattle.nearest.specs.Held.{Held, after, walked}
 
 -- ---- totals added up
 
@@ -34,64 +36,72 @@ abbrev pub examined : Held → Held
 examined w = record { answers = w .answers; totals = visited (w .totals) }
 
 module _ (j : Trees) where
-  totals-stop : (t : Totals) (v : Seen (List Neighbour) NodePair) (k : Fate) → plus t (visitTotals j (stop v k)) ≡ adding k (area j (v .pair)) (visited t)
+  -- the totals of these visits
+  abbrev visitTotals : Run′ → Totals
+  visitTotals = totalsOf (λ v. area j (v .pair))
+
+  totals-stop : (t : Totals) (v : Seen (List Neighbour) NodePair) (k : Fate) → plus t (visitTotals (stop v k)) ≡ adding k (area j (v .pair)) (visited t)
   unfolding visits sum
   totals-stop t v k = let e : t .visits + 1 ≡ suc (t .visits) = omega arith in λ i. record { visits = e i; measured = t .measured + is measured k * area j (v .pair); ruledOut = t .ruledOut + is ruled k * area j (v .pair); whole = t .whole + is whole k * area j (v .pair) }
 
-  totals-one : (t : Totals) (v : Seen (List Neighbour) NodePair) (r : Run′) → plus t (visitTotals j (one v r)) ≡ plus (visited t) (visitTotals j r)
+  totals-one : (t : Totals) (v : Seen (List Neighbour) NodePair) (r : Run′) → plus t (visitTotals (one v r)) ≡ plus (visited t) (visitTotals r)
   unfolding visits sum
   totals-one t v r =
-      let u : Totals = visitTotals j r in
+      let u : Totals = visitTotals r in
       let e : t .visits + suc (visits r) ≡ suc (t .visits) + visits r = omega arith in
       λ i. record { visits = e i; measured = t .measured + u .measured; ruledOut = t .ruledOut + u .ruledOut; whole = t .whole + u .whole }
 
   fate-two : (t x y : ℕ) → t + (x + y) ≡ t + y + x
   fate-two t x y = omega arith
 
-  totals-two : (t : Totals) (v : Seen (List Neighbour) NodePair) (r s : Run′) → plus t (visitTotals j (two v r s)) ≡ plus (plus (visited t) (visitTotals j s)) (visitTotals j r)
+  totals-two : (t : Totals) (v : Seen (List Neighbour) NodePair) (r s : Run′) → plus t (visitTotals (two v r s)) ≡ plus (plus (visited t) (visitTotals s)) (visitTotals r)
   unfolding visits sum
   totals-two t v r s =
-      let x : Totals = visitTotals j r in
-      let y : Totals = visitTotals j s in
+      let x : Totals = visitTotals r in
+      let y : Totals = visitTotals s in
       let e : t .visits + suc (visits r + visits s) ≡ suc (t .visits) + visits s + visits r = omega arith in
       λ i. record { visits = e i; measured = fate-two (t .measured) (x .measured) (y .measured) i; ruledOut = fate-two (t .ruledOut) (x .ruledOut) (y .ruledOut) i; whole = fate-two (t .whole) (x .whole) (y .whole) i }
 
   -- ---- the walk from a node pair on
 
+  -- before the first visit: item 0 and +inf for each left place
+  abbrev pub unvisited : Held
+  unvisited = record { answers = replicate (places (j .left)) unset; totals = none }
+
   abbrev carried : ℕ → List Neighbour → NodePair → Step NodePair → Run′ × List Neighbour
   carried = carries (nearStep j) (update j)
 
-  abbrev leaves-of : Totals → Run′ × List Neighbour → Held
-  leaves-of t y = record { answers = y .1; totals = plus t (visitTotals j (y .0)) }
+  abbrev held-after : Totals → Run′ × List Neighbour → Held
+  held-after t y = record { answers = y .1; totals = plus t (visitTotals (y .0)) }
 
   unfoldable pub walkFrom : NodePair → Held → Held
   unfolding nearStep update carries visits sum
-  walkFrom s w = leaves-of (w .totals) (carried (levelsLeft s) (w .answers) s (nearStep j (w .answers) s))
+  walkFrom s w = held-after (w .totals) (carried (levelsLeft s) (w .answers) s (nearStep j (w .answers) s))
 
   answers-walked : noPoints j ≡ false → nearWalk j .1 ≡ nearest j
   unfolding nearest
   answers-walked e = rw e
 
-  totals-walked : noPoints j ≡ false → visitTotals j (nearWalk j .0) ≡ nearTotals j
+  totals-walked : noPoints j ≡ false → visitTotals (nearWalk j .0) ≡ nearTotals j
   unfolding nearTotals
   totals-walked e = rw e
 
-  from-root : walkFrom (rootPair j) (unvisited j) ≡ record { answers = nearWalk j .1; totals = plus none (visitTotals j (nearWalk j .0)) }
+  from-root : walkFrom (rootPair j) unvisited ≡ record { answers = nearWalk j .1; totals = plus none (visitTotals (nearWalk j .0)) }
   unfolding walkFrom nearWalk
   from-root = refl
 
   -- from the roots on, all that the walk does
-  pub begins : {w : Held} → noPoints j ≡ false → w ≡ unvisited j → walkFrom (rootPair j) w ≡ walked j
-  begins h e = ap (walkFrom (rootPair j)) e ∙ from-root ∙ (λ i. record { answers = answers-walked h i; totals = (none-plus (visitTotals j (nearWalk j .0)) ∙ totals-walked h) i })
+  pub begins : {w : Held} → noPoints j ≡ false → w ≡ unvisited → walkFrom (rootPair j) w ≡ walked j
+  begins h e = ap (walkFrom (rootPair j)) e ∙ from-root ∙ (λ i. record { answers = answers-walked h i; totals = (none-plus (visitTotals (nearWalk j .0)) ∙ totals-walked h) i })
 
-  carried-end : (d : ℕ) (s : NodePair) (k : Fate) (w : Held) → leaves-of (w .totals) (carried d (w .answers) s (ends k)) ≡ after j k s (examined w)
+  carried-end : (d : ℕ) (s : NodePair) (k : Fate) (w : Held) → held-after (w .totals) (carried d (w .answers) s (ends k)) ≡ after j k s (examined w)
   unfolding carries
   carried-end zero s k w = λ i. record { answers = after j k s (examined w) .answers; totals = totals-stop (w .totals) (seen (w .answers) s) k i }
   carried-end (suc d) s k w = λ i. record { answers = after j k s (examined w) .answers; totals = totals-stop (w .totals) (seen (w .answers) s) k i }
 
   pub from-end : (s : NodePair) (k : Fate) (w : Held) → nearStep j (w .answers) s ≡ ends k → walkFrom s w ≡ after j k s (examined w)
   unfolding walkFrom
-  from-end s k w e = ap (λ (x : Step NodePair). leaves-of (w .totals) (carried (levelsLeft s) (w .answers) s x)) e ∙ carried-end (levelsLeft s) s k w
+  from-end s k w e = ap (λ (x : Step NodePair). held-after (w .totals) (carried (levelsLeft s) (w .answers) s x)) e ∙ carried-end (levelsLeft s) s k w
 
   pub from-goes : (s t : NodePair) (w : Held) → nearStep j (w .answers) s ≡ goes t → OnwardFrom j s (goes t) → walkFrom s w ≡ walkFrom t (examined w)
   unfolding walkFrom carries

@@ -35,10 +35,10 @@ use Rattle.nearest.specs.declared.moves.Move.the-variants.{End, Split}
 use Rattle.nearest.specs.Largest.{HeldUnder}
 use Rattle.nearest.specs.Apart.{BoxNoFarther}
 use Rattle.nearest.specs.Moves.{fateOf, moveBy, moveOf, ruledOutBy}
-use Rattle.nearest.specs.Held.{Held, heldOf, after, FewPairs, unvisited, walked}
+use Rattle.nearest.specs.Held.{Held, heldOf, after, FewPairs, walked}
 use Rattle.nearest.proofs.HeldDistances.{ruled-out-is}
 use Rattle.nearest.proofs.BoxFar.{box-no-farther}
-use Rattle.nearest.proofs.Carrying.{examined, from-end, nearestWalk, fate-grows, visits-rise}
+use Rattle.nearest.proofs.Carrying.{unvisited, examined, from-end, nearestWalk, fate-grows, visits-rise}
 use Rattle.nearest.proofs.Chosen.{chosen-end, chosen-split}
 
 -- what the code holds before the first visit

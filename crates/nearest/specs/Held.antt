@@ -1,14 +1,12 @@
 -- What the walk has done: the answers now held, and the totals; and what the whole walk does (document 01, "Nearest", "Totals"). Assumes nothing.
 use mathlib.Core.List.{List}
 use Prim.Native.Nat.{ℕ, _^_, _≤_}
-use lib.ListN.{replicate}
 use lib.Ieee.{Float}
-use Rattle.written.specs.LentTree.{places}
 use Rattle.written.specs.Boxes.{Trees}
-use Rattle.written.specs.Visits.{Fate, Run, Seen, after as answersAfter}
+use Rattle.written.specs.Visits.{Fate, after as answersAfter}
 use Rattle.written.specs.NodePairs.{NodePair, area}
-use Rattle.written.specs.Nearest.{Neighbour, unset, nearStep, update, nearest}
-use Rattle.written.specs.Totals.{Totals, none, totalsOf, nearTotals}
+use Rattle.written.specs.Nearest.{Neighbour, nearStep, update, nearest}
+use Rattle.written.specs.Totals.{Totals, nearTotals}
 use Rattle.leaf.specs.Answers.{answers}
 use Rattle.traversal.specs.declared.tally.Tally.{Tally}
 use Rattle.traversal.specs.Work.{totalsHeld, adding}
@@ -30,14 +28,6 @@ module _ (j : Trees) where
   abbrev pub after : Fate → NodePair → Held → Held
   after k s w = record { answers = answersAfter (nearStep j) (update j) k (w .answers) s; totals = adding k (area j s) (w .totals) }
 
-  -- the totals of a walk's visits
-  abbrev pub visitTotals : Run (Seen (List Neighbour) NodePair) → Totals
-  visitTotals = totalsOf (λ v. area j (v .pair))
-
-  -- before the first visit: item 0 and +inf for each left place
-  abbrev pub unvisited : Held
-  unvisited = record { answers = replicate (places (j .left)) unset; totals = none }
-
-  -- after the last
+  -- after the last visit
   abbrev pub walked : Held
   walked = record { answers = nearest j; totals = nearTotals j }
