@@ -6,7 +6,7 @@ use native.Mathlib.Omega.{arith}
 use lib.ListN.{length}
 use lib.Ieee.{Float}
 use Rattle.written.specs.Nearest.{Neighbour}
-use Rattle.leaf.specs.Answers.{answers}
+use Rattle.leafnearest.specs.Answers.{answers}
 use Rattle.beside.specs.Calls.{updated, improvedTo}
 
 items-of : (items : List ℕ) (distances : List Float) → length items ≡ length distances → map (λ x. x .item) (answers items distances) ≡ items

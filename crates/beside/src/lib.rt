@@ -14,8 +14,8 @@ ghost use Rattle.metric.specs.Lent.{pointAt};
 ghost use Rattle.tree.specs.Lent.{treeOf};
 ghost use Rattle.leaf.specs.Lent.{joinOf};
 ghost use Rattle.leaf.specs.Kept.{keeps, ofLeaves};
-ghost use Rattle.leaf.specs.Rooms.{filling, puts};
-ghost use Rattle.leaf.specs.Answers.{answers, improved};
+ghost use Rattle.rooms.specs.Rooms.{filling, puts};
+ghost use Rattle.leafnearest.specs.Answers.{answers, improved};
 ghost use Rattle.beside.specs.Calls.{placeOk, pairOk, alikeOk, updated, improvedTo};
 
 mod asked;
@@ -115,7 +115,7 @@ pub extern "C" fn oul_leaf_counts(
     if !pair_ok(k, litems, lcoords, ls, lend, ritems, rcoords, rs, rend) {
         return 0xffff_ffff_ffff_ffff;
     }
-    leaf::counts::leaf_counts(
+    leafcounts::leaf_counts(
         k as usize,
         radius,
         under,
@@ -156,7 +156,7 @@ pub extern "C" fn oul_leaf_pairs(
     if !alike(lout.len(), rout.len(), dout.len()) {
         return 0xffff_ffff_ffff_ffff;
     }
-    leaf::pairs::leaf_pairs(
+    leafpairs::leaf_pairs(
         k as usize,
         radius,
         under,
@@ -198,7 +198,7 @@ pub extern "C" fn oul_update_leaf(
     if !alike(lend - ls, items.len(), dists.len()) {
         return 0;
     }
-    leaf::nearest::update_leaf(
+    leafnearest::update_leaf(
         k as usize,
         litems,
         lcoords,

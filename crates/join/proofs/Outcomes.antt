@@ -14,7 +14,7 @@ use Rattle.written.specs.Checked.{refusal-is-first}
 use Rattle.written.specs.Calls.{TreeRefused, left-broken, right-broken}
 use Rattle.written.specs.Answered.{rooms-agree}
 use Rattle.written.specs.Laws.Checked.{on-refused}
-use Rattle.leaf.specs.Rooms.{SameRooms}
+use Rattle.rooms.specs.Rooms.{SameRooms}
 use Rattle.traversal.specs.Lent.{roomsOf}
 use Rattle.traversal.specs.Work.{Work, totalsHeld, workOf, walked}
 use Rattle.traversal.specs.declared.tally.Tally.{Tally}

@@ -1,12 +1,5 @@
-pub mod Changed
-pub mod Filled
 pub mod Growing
 pub mod Hits
-pub mod Improved
 pub mod Keeping
 pub mod Parts
-pub mod Places
-pub mod Points
-pub mod Remaining
-pub mod Stored
 pub mod Tiled

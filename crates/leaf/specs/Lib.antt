@@ -1,10 +1,4 @@
 pub mod Lent
 pub mod Sums
 pub mod Kept
-pub mod Rooms
-pub mod Emitted
-pub mod Answers
 pub mod Fits
-pub mod Stored
-pub mod Each
-pub mod Stretches

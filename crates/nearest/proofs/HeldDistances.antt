@@ -11,8 +11,8 @@ use Rattle.rounding.specs.Distance.{zero₊}
 use Rattle.written.specs.Boxes.{Trees, lower, under, beyond}
 use Rattle.written.specs.NodePairs.{NodePair, noLeaf, leftPart}
 use Rattle.written.specs.Nearest.{Neighbour, answerAt, largest, nearRuledOut}
-use Rattle.leaf.specs.Answers.{answers}
-use Rattle.leaf.proofs.Stored.{get-answers}
+use Rattle.leafnearest.specs.Answers.{answers}
+use Rattle.leafnearest.proofs.Stored.{get-answers}
 use Rattle.nearest.specs.Largest.{largestFrom}
 use Rattle.nearest.specs.Moves.{ruledOutBy}
 

@@ -14,8 +14,8 @@ use Rattle.written.specs.NodePairs.{NodePair, leftPart}
 use Rattle.written.specs.Nearest.{Neighbour, answerAt, update}
 use Rattle.cursor.specs.Tiles.{tile-read}
 use Rattle.leaf.specs.Lent.{LeafPair}
-use Rattle.leaf.specs.Answers.{answers, Answering}
-use Rattle.leaf.proofs.Stored.{length-answers, get-answers}
+use Rattle.leafnearest.specs.Answers.{answers, Answering}
+use Rattle.leafnearest.proofs.Stored.{length-answers, get-answers}
 use Rattle.traversal.proofs.Ended.{PlacesRead}
 use Rattle.nearest.specs.Apart.{apart, gainsAt, oneOf, BoxNoFarther}
 use Rattle.nearest.proofs.OneOf.{none-is}

@@ -11,9 +11,9 @@ use Rattle.written.specs.Boxes.{Trees}
 use Rattle.written.specs.NodePairs.{NodePair, leftPart, rightPart}
 use Rattle.written.specs.Nearest.{update}
 use Rattle.leaf.specs.Lent.{joinOf, stretch, LeafPair}
-use Rattle.leaf.specs.Answers.{answers, Answering, improved}
-use Rattle.leaf.specs.Stretches.{update-is, same-improved}
-use Rattle.leaf.proofs.Stored.{length-answers, append-answers}
+use Rattle.leafnearest.specs.Answers.{answers, Answering, improved}
+use Rattle.leafnearest.specs.Stretches.{update-is, same-improved}
+use Rattle.leafnearest.proofs.Stored.{length-answers, append-answers}
 use Rattle.traversal.proofs.Ended.{PlacesRead}
 
 -- ---- parts of the answers

@@ -16,7 +16,7 @@ use Rattle.written.specs.Totals.{Totals, none, nearTotals}
 use Rattle.written.specs.Answers.{Accepts}
 use Rattle.written.specs.Limits.{near-visits-bounded, near-totals-fit, levels-fit}
 use Rattle.metric.specs.Flat.{boxesOf}
-use Rattle.leaf.specs.Answers.{answers, Answering}
+use Rattle.leafnearest.specs.Answers.{answers, Answering}
 use Rattle.traversal.specs.declared.nodes.Nodes.{Nodes}
 use Rattle.traversal.specs.declared.tally.Tally.{Tally}
 use Rattle.traversal.specs.declared.waiting.Waiting.{Waiting}

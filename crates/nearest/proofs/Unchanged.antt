@@ -15,7 +15,7 @@ use Rattle.written.specs.NodePairs.{NodePair, leftPart, rightPart}
 use Rattle.written.specs.Nearest.{Neighbour, answerAt, improve, offer, update}
 use Rattle.written.specs.Laws.Tests.{denies, T-true, not-both}
 use Rattle.written.specs.Laws.Places.{true-inside}
-use Rattle.leaf.specs.Each.{each-is}
+use Rattle.leafnearest.specs.Each.{each-is}
 use Rattle.nearest.specs.Apart.{apart, BoxNoFarther}
 
 -- where x is not below y, no number from x up is; NaN is below nothing

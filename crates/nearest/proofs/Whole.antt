@@ -18,7 +18,7 @@ use Rattle.written.specs.Right.{nearest-for-each}
 use Rattle.written.specs.Laws.Tests.{equal, at-most}
 use Rattle.written.specs.Laws.Rooms.{stored-all}
 use Rattle.written.specs.Laws.Points.{has-points}
-use Rattle.leaf.specs.Answers.{answers}
+use Rattle.leafnearest.specs.Answers.{answers}
 use Rattle.traversal.specs.declared.tally.Tally.{Tally}
 use Rattle.traversal.specs.Work.{totalsHeld}
 use Rattle.nearest.specs.Lent.{nearRoomsOf}

@@ -7,7 +7,7 @@ use Rattle.written.specs.Visits.{Fate, after as answersAfter}
 use Rattle.written.specs.NodePairs.{NodePair, area}
 use Rattle.written.specs.Nearest.{Neighbour, nearStep, update, nearest}
 use Rattle.written.specs.Totals.{Totals, nearTotals}
-use Rattle.leaf.specs.Answers.{answers}
+use Rattle.leafnearest.specs.Answers.{answers}
 use Rattle.traversal.specs.declared.tally.Tally.{Tally}
 use Rattle.traversal.specs.Work.{totalsHeld, adding}
 

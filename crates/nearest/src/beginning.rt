@@ -2,7 +2,7 @@
 ghost use mathlib.Core.Path.{_≡_};
 ghost use lib.ListN.{length, replicate};
 ghost use Rattle.written.specs.Nearest.{unset};
-ghost use Rattle.leaf.specs.Answers.{answers};
+ghost use Rattle.leafnearest.specs.Answers.{answers};
 
 // Item 0 and +inf for each left place.
 pub fn clear(items: &mut [u32], dists: &mut [f64])

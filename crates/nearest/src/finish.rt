@@ -4,7 +4,7 @@ ghost use mathlib.Core.List.{[]};
 ghost use lib.ListN.{length};
 ghost use Rattle.written.specs.Nearest.{update};
 ghost use Rattle.metric.specs.Flat.{boxesOf};
-ghost use Rattle.leaf.specs.Answers.{answers, Answering};
+ghost use Rattle.leafnearest.specs.Answers.{answers, Answering};
 ghost use Rattle.traversal.specs.Lent.{stemless};
 ghost use Rattle.traversal.specs.Standing.{pairAt};
 ghost use Rattle.traversal.specs.Ending.{Leaves};
@@ -45,7 +45,7 @@ fn measure<'a>(
     if !gains(k, lcoords, litems.len(), ls, min, max, &dists[ls..lend]) {
         return;
     }
-    leaf::nearest::update_leaf(
+    leafnearest::update_leaf(
         k,
         litems,
         lcoords,

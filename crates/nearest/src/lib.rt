@@ -4,7 +4,7 @@ ghost use mathlib.Core.Bool.{true, false};
 ghost use lib.ListN.{length, replicate};
 ghost use Rattle.written.specs.Nearest.{unset, noPoints};
 ghost use Rattle.written.specs.Answers.{Accepts, nearRoomsAgree, nearRoomOk};
-ghost use Rattle.leaf.specs.Answers.{answers, Answering};
+ghost use Rattle.leafnearest.specs.Answers.{answers, Answering};
 ghost use Rattle.traversal.specs.Lent.{treesOf};
 ghost use Rattle.nearest.specs.Lent.{nearRoomsOf};
 ghost use Rattle.nearest.specs.Held.{heldOf, walked};

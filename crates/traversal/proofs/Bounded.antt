@@ -13,8 +13,8 @@ use Rattle.written.specs.RadiusWalk.{kept, leafPair, step}
 use Rattle.written.specs.Totals.{Totals, walkTotals}
 use Rattle.written.specs.Answers.{Accepts, PairRooms}
 use Rattle.written.specs.Limits.{visits-bounded, levels-fit, totals-fit, found-fits, count-fits}
-use Rattle.leaf.specs.Rooms.{Filling}
-use Rattle.leaf.specs.Stored.{puts-found}
+use Rattle.rooms.specs.Rooms.{Filling}
+use Rattle.rooms.specs.Stored.{puts-found}
 use Rattle.traversal.specs.declared.nodes.Nodes.{Nodes}
 use Rattle.traversal.specs.declared.tally.Tally.{Tally}
 use Rattle.traversal.specs.declared.waiting.Waiting.{Waiting}

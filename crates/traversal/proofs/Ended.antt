@@ -16,8 +16,8 @@ use Rattle.written.specs.Totals.{Totals}
 use Rattle.metric.specs.Edges.{edgeOf}
 use Rattle.leaf.specs.Lent.{LeafPair}
 use Rattle.leaf.specs.Kept.{keeps, ofLeaves}
-use Rattle.leaf.specs.Rooms.{Filling, filling, puts}
-use Rattle.leaf.specs.Stored.{leaf-kept}
+use Rattle.rooms.specs.Rooms.{Filling, filling, puts}
+use Rattle.rooms.specs.Stored.{leaf-kept}
 use Rattle.traversal.specs.declared.tally.Tally.{Tally}
 use Rattle.traversal.specs.Lent.{stemless}
 use Rattle.traversal.specs.Standing.{Within, pointsOf}

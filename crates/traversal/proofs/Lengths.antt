@@ -12,8 +12,8 @@ use Rattle.written.specs.Visits.{Fate}
 use Rattle.written.specs.NodePairs.{NodePair}
 use Rattle.written.specs.RadiusWalk.{Found, kept, leafPair}
 use Rattle.written.specs.Answers.{PairRooms}
-use Rattle.leaf.specs.Rooms.{Filling, puts, SameRooms}
-use Rattle.leaf.specs.Stored.{puts-sets}
+use Rattle.rooms.specs.Rooms.{Filling, puts, SameRooms}
+use Rattle.rooms.specs.Stored.{puts-sets}
 use Rattle.traversal.specs.Lent.{roomsOf}
 use Rattle.traversal.specs.Work.{Work, finding, after}
 

@@ -13,8 +13,8 @@ use Rattle.written.specs.NodePairs.{NodePair, area}
 use Rattle.written.specs.RadiusWalk.{Found, kept, counted, leafPair, walk, found, count}
 use Rattle.written.specs.Totals.{Totals, none, walkTotals}
 use Rattle.written.specs.Answers.{PairRooms, pairsStored}
-use Rattle.leaf.specs.Rooms.{Filling, filling, puts}
-use Rattle.leaf.specs.Stored.{puts-append, puts-found, all-stored}
+use Rattle.rooms.specs.Rooms.{Filling, filling, puts}
+use Rattle.rooms.specs.Stored.{puts-append, puts-found, all-stored}
 use Rattle.traversal.specs.declared.tally.Tally.{Tally}
 use Rattle.traversal.specs.Work.{Work, totalsHeld, workOf, visited, adding, after, walked}
 

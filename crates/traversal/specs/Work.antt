@@ -10,7 +10,7 @@ use Rattle.written.specs.NodePairs.{NodePair, area}
 use Rattle.written.specs.RadiusWalk.{Found, kept, counted, leafPair, found, count}
 use Rattle.written.specs.Totals.{Totals, walkTotals}
 use Rattle.written.specs.Answers.{PairRooms, pairsStored}
-use Rattle.leaf.specs.Rooms.{Filling, filling, puts}
+use Rattle.rooms.specs.Rooms.{Filling, filling, puts}
 use Rattle.traversal.specs.declared.tally.Tally.{Tally}
 
 pub record Work : Type 0 where

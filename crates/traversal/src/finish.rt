@@ -4,7 +4,7 @@ ghost use mathlib.Core.List.{[]};
 ghost use Rattle.written.specs.Visits.{measured};
 ghost use Rattle.metric.specs.Edges.{edgeOf};
 ghost use Rattle.metric.specs.Flat.{boxesOf};
-ghost use Rattle.leaf.specs.Rooms.{SameRooms};
+ghost use Rattle.rooms.specs.Rooms.{SameRooms};
 ghost use Rattle.traversal.specs.Lent.{stemless};
 ghost use Rattle.traversal.specs.Standing.{pairAt};
 ghost use Rattle.traversal.specs.Work.{workOf, after};
@@ -46,7 +46,7 @@ fn measure(
     let rs = cursor::start_of(rstarts, r.first);
     let rend = cursor::start_of(rstarts, r.end);
     if counting {
-        let more = leaf::counts::leaf_counts(
+        let more = leafcounts::leaf_counts(
             k,
             radius,
             under,
@@ -61,7 +61,7 @@ fn measure(
         );
         return t.measured(n, t.found + more);
     }
-    let found = leaf::pairs::leaf_pairs(
+    let found = leafpairs::leaf_pairs(
         k,
         radius,
         under,

@@ -2,7 +2,7 @@
 ghost use mathlib.Core.Path.{_≡_};
 ghost use Rattle.written.specs.Answers.{Accepts};
 ghost use Rattle.metric.specs.Edges.{edgeOf};
-ghost use Rattle.leaf.specs.Rooms.{SameRooms};
+ghost use Rattle.rooms.specs.Rooms.{SameRooms};
 ghost use Rattle.traversal.specs.Lent.{treesOf, roomsOf};
 ghost use Rattle.traversal.specs.Work.{workOf, walked};
 use metric::Boxes;

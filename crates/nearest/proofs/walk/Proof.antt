@@ -11,7 +11,7 @@ use Rattle.written.specs.NodePairs.{leftSide, rightSide}
 use Rattle.written.specs.Totals.{Totals, nearTotals}
 use Rattle.written.specs.Answers.{Accepts}
 use Rattle.metric.specs.Flat.{boxesOf}
-use Rattle.leaf.specs.Answers.{Answering}
+use Rattle.leafnearest.specs.Answers.{Answering}
 use Rattle.traversal.specs.declared.waiting.Popped.the-variants.{Entry}
 use Rattle.traversal.specs.Lent.{treesOf}
 use Rattle.traversal.proofs.Halves.{put-raised}

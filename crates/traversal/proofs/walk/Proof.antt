@@ -12,7 +12,7 @@ use Rattle.written.specs.Answers.{Accepts}
 use Rattle.written.specs.Laws.Tests.{refused, granted}
 use Rattle.metric.specs.Edges.{edgeOf}
 use Rattle.metric.specs.Flat.{boxesOf}
-use Rattle.leaf.specs.Rooms.{SameRooms}
+use Rattle.rooms.specs.Rooms.{SameRooms}
 use Rattle.traversal.specs.declared.waiting.Popped.the-variants.{Entry}
 use Rattle.traversal.specs.Lent.{treesOf, roomsOf}
 use Rattle.traversal.specs.Work.{Work, workOf, walked}

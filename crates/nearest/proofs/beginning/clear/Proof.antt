@@ -10,8 +10,8 @@ use lib.Seq.{take-all, take-suc-set}
 use denote.Ref.{now}
 use lib.Ieee.{Float, inf, div, ofBits}
 use Rattle.written.specs.Nearest.{unset}
-use Rattle.leaf.specs.Answers.{answers}
-use Rattle.leaf.proofs.Stored.{length-answers, set-answers}
+use Rattle.leafnearest.specs.Answers.{answers}
+use Rattle.leafnearest.proofs.Stored.{length-answers, set-answers}
 use borrow.Author.Needs.{needs}
 use Rattle.nearest.proofs.beginning.clear.Statement.{statement}
 use Rattle.nearest.proofs.beginning.clear.Tie as tie
