@@ -15,9 +15,11 @@ use Rattle.written.specs.Calls.{TreeRefused, left-broken, right-broken}
 use Rattle.written.specs.Answered.{rooms-agree}
 use Rattle.written.specs.Laws.Checked.{on-refused}
 use Rattle.rooms.specs.Rooms.{SameRooms}
-use Rattle.traversal.specs.Lent.{roomsOf}
-use Rattle.traversal.specs.Work.{Work, totalsHeld, workOf, walked}
-use Rattle.traversal.specs.declared.tally.Tally.{Tally}
+use Rattle.steps.specs.Lent.{roomsOf}
+use Rattle.steps.specs.Counted.{totalsHeld}
+use Rattle.steps.specs.declared.tally.Tally.{Tally}
+use Rattle.radiusvisit.specs.Work.{Work, workOf}
+use Rattle.traversal.specs.Walked.{walked}
 use Rattle.nearest.specs.Lent.{nearRoomsOf}
 use Rattle.nearest.specs.Executed.{Outcome, outcomeOf, executed}
 use Rattle.join.specs.declared.answer.Answer.{Answer as Held}

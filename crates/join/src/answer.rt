@@ -1,9 +1,9 @@
 // What a call answers: the refusal's number and side (0 and 0 when nothing is refused), the number found, and the totals.
 ghost use mathlib.Core.Path.{_≡_};
 ghost use Rattle.written.specs.Answers.{answered as answeredBy, refused as refusedAs};
-ghost use Rattle.traversal.specs.Work.{totalsHeld};
+ghost use Rattle.steps.specs.Counted.{totalsHeld};
 ghost use Rattle.join.specs.Told.{answerOf};
-use traversal::Tally;
+use steps::Tally;
 
 pub struct Answer {
     pub number: u32,

@@ -1,7 +1,7 @@
 // How many pairs are within a radius.
 ghost use Rattle.written.specs.Boxes.{upTo, under};
 ghost use Rattle.metric.specs.Edges.{edgeOf};
-ghost use Rattle.traversal.specs.Lent.{treesOf};
+ghost use Rattle.steps.specs.Lent.{treesOf};
 ghost use Rattle.join.specs.Told.{CountsTold};
 use crate::answer::Answer;
 use crate::answer::answered;

@@ -1,7 +1,7 @@
 // For each left point the nearest right item, in left place order.
 ghost use mathlib.Core.Path.{_≡_};
 ghost use Rattle.written.specs.Answers.{nearRoomsAgree};
-ghost use Rattle.traversal.specs.Lent.{treesOf};
+ghost use Rattle.steps.specs.Lent.{treesOf};
 ghost use Rattle.nearest.specs.Lent.{nearRoomsOf};
 ghost use Rattle.join.specs.Told.{NearestTold, roomFor, withNearRooms};
 use crate::answer::Answer;

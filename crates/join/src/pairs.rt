@@ -3,7 +3,7 @@ ghost use mathlib.Core.Path.{_≡_};
 ghost use Rattle.written.specs.Boxes.{upTo, under};
 ghost use Rattle.written.specs.Answers.{roomNumber, pairRoomsAgree};
 ghost use Rattle.metric.specs.Edges.{edgeOf};
-ghost use Rattle.traversal.specs.Lent.{treesOf, roomsOf};
+ghost use Rattle.steps.specs.Lent.{treesOf, roomsOf};
 ghost use Rattle.join.specs.Told.{PairsTold, withRooms};
 use crate::answer::Answer;
 use crate::answer::answered;

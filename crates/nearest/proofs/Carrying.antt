@@ -14,10 +14,10 @@ use Rattle.written.specs.Nearest.{Neighbour, unset, nearStep, update, nearWalk,
 use Rattle.written.specs.Totals.{Totals, none, totalsOf, nearTotals}
 use Rattle.written.specs.Laws.Walks.{Onward}
 use Rattle.written.specs.Laws.RadiusWalk.{Good}
-use Rattle.traversal.specs.Work.{visited, adding}
-use Rattle.traversal.proofs.Halves.{farFirst}
-use Rattle.traversal.proofs.Through.{ofFate, some-visits}
-use Rattle.traversal.proofs.Pending.{levelsLeft, OnwardFrom, Walk}
+use Rattle.steps.specs.Counted.{visited, adding}
+use Rattle.steps.proofs.Halves.{farFirst}
+use Rattle.steps.proofs.Counted.{ofFate, some-visits}
+use Rattle.steps.proofs.Pending.{levelsLeft, OnwardFrom, Walk}
 use Rattle.nearest.specs.Held.{Held, after, walked}
 
 -- ---- totals added up

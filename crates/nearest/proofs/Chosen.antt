@@ -10,7 +10,7 @@ use Rattle.written.specs.Visits.{ends}
 use Rattle.written.specs.NodePairs.{NodePair, splitsRight, visit}
 use Rattle.written.specs.Nearest.{Neighbour, nearRuledOut, nearStep}
 use Rattle.cursor.specs.Held.{sideOf}
-use Rattle.traversal.proofs.Visiting.{SplitsOn, side-picked}
+use Rattle.steps.proofs.Visiting.{SplitsOn, side-picked}
 use Rattle.nearest.specs.declared.moves.Fate.{Fate as Held}
 use Rattle.nearest.specs.declared.moves.Fate.the-variants.{Measured, RuledOut}
 use Rattle.nearest.specs.declared.moves.Move.the-variants.{End, Split}

@@ -16,7 +16,7 @@ use Rattle.cursor.specs.Tiles.{tile-read}
 use Rattle.leaf.specs.Lent.{LeafPair}
 use Rattle.leafnearest.specs.Answers.{answers, Answering}
 use Rattle.leafnearest.proofs.Stored.{length-answers, get-answers}
-use Rattle.traversal.proofs.Ended.{PlacesRead}
+use Rattle.steps.proofs.PlacesRead.{PlacesRead}
 use Rattle.nearest.specs.Apart.{apart, gainsAt, oneOf, BoxNoFarther}
 use Rattle.nearest.proofs.OneOf.{none-is}
 use Rattle.nearest.proofs.Unchanged.{update-none}

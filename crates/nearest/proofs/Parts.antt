@@ -14,7 +14,7 @@ use Rattle.leaf.specs.Lent.{joinOf, stretch, LeafPair}
 use Rattle.leafnearest.specs.Answers.{answers, Answering, improved}
 use Rattle.leafnearest.specs.Stretches.{update-is, same-improved}
 use Rattle.leafnearest.proofs.Stored.{length-answers, append-answers}
-use Rattle.traversal.proofs.Ended.{PlacesRead}
+use Rattle.steps.proofs.PlacesRead.{PlacesRead}
 
 -- ---- parts of the answers
 

@@ -17,18 +17,18 @@ use Rattle.written.specs.Answers.{Accepts}
 use Rattle.written.specs.Limits.{near-visits-bounded, near-totals-fit, levels-fit}
 use Rattle.metric.specs.Flat.{boxesOf}
 use Rattle.leafnearest.specs.Answers.{answers, Answering}
-use Rattle.traversal.specs.declared.nodes.Nodes.{Nodes}
-use Rattle.traversal.specs.declared.tally.Tally.{Tally}
-use Rattle.traversal.specs.declared.waiting.Waiting.{Waiting}
-use Rattle.traversal.specs.Lent.{stemless}
-use Rattle.traversal.specs.Standing.{pairAt}
-use Rattle.traversal.specs.Work.{totalsHeld, visited}
-use Rattle.traversal.specs.Ending.{Leaves}
-use Rattle.traversal.proofs.Through.{Examined, ofFate}
-use Rattle.traversal.proofs.Pending.{levelsLeft}
-use Rattle.traversal.proofs.Reading.{leaves-read}
-use Rattle.traversal.proofs.Going.{Going, never-above, still-below}
-use Rattle.traversal.proofs.Visiting.{SplitsOn, good-here, turn-end}
+use Rattle.steps.specs.declared.nodes.Nodes.{Nodes}
+use Rattle.steps.specs.declared.tally.Tally.{Tally}
+use Rattle.steps.specs.declared.waiting.Waiting.{Waiting}
+use Rattle.steps.specs.Lent.{stemless}
+use Rattle.steps.specs.Standing.{pairAt}
+use Rattle.steps.specs.Counted.{totalsHeld, visited}
+use Rattle.steps.specs.Ending.{Leaves}
+use Rattle.steps.proofs.Counted.{Examined, ofFate}
+use Rattle.steps.proofs.Pending.{levelsLeft}
+use Rattle.steps.proofs.Reading.{leaves-read}
+use Rattle.steps.proofs.Going.{Going, never-above, still-below}
+use Rattle.steps.proofs.Visiting.{SplitsOn, good-here, turn-end}
 use Rattle.nearest.specs.declared.moves.Fate.{Fate as Fated}
 use Rattle.nearest.specs.declared.moves.Move.{Move}
 use Rattle.nearest.specs.declared.moves.Move.the-variants.{End, Split}

@@ -19,8 +19,8 @@ use Rattle.written.specs.Laws.Tests.{equal, at-most}
 use Rattle.written.specs.Laws.Rooms.{stored-all}
 use Rattle.written.specs.Laws.Points.{has-points}
 use Rattle.leafnearest.specs.Answers.{answers}
-use Rattle.traversal.specs.declared.tally.Tally.{Tally}
-use Rattle.traversal.specs.Work.{totalsHeld}
+use Rattle.steps.specs.declared.tally.Tally.{Tally}
+use Rattle.steps.specs.Counted.{totalsHeld}
 use Rattle.nearest.specs.Lent.{nearRoomsOf}
 use Rattle.nearest.specs.Held.{Held, heldOf, walked}
 use Rattle.nearest.specs.Executed.{Outcome, outcomeOf, executed}

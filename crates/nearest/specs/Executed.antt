@@ -7,8 +7,8 @@ use Rattle.written.specs.Boxes.{Trees}
 use Rattle.written.specs.Nearest.{nearest}
 use Rattle.written.specs.Totals.{Totals, nearTotals}
 use Rattle.written.specs.Answers.{NearRooms, nearStored}
-use Rattle.traversal.specs.declared.tally.Tally.{Tally}
-use Rattle.traversal.specs.Work.{totalsHeld}
+use Rattle.steps.specs.declared.tally.Tally.{Tally}
+use Rattle.steps.specs.Counted.{totalsHeld}
 use Rattle.nearest.specs.Lent.{nearRoomsOf}
 
 pub record Outcome : Type 0 where

@@ -8,8 +8,8 @@ use Rattle.written.specs.NodePairs.{NodePair, area}
 use Rattle.written.specs.Nearest.{Neighbour, nearStep, update, nearest}
 use Rattle.written.specs.Totals.{Totals, nearTotals}
 use Rattle.leafnearest.specs.Answers.{answers}
-use Rattle.traversal.specs.declared.tally.Tally.{Tally}
-use Rattle.traversal.specs.Work.{totalsHeld, adding}
+use Rattle.steps.specs.declared.tally.Tally.{Tally}
+use Rattle.steps.specs.Counted.{totalsHeld, adding}
 
 pub record Held : Type 0 where
   pub answers : List Neighbour

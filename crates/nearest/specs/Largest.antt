@@ -7,8 +7,8 @@ use lib.Ieee.{Float, lt}
 use Rattle.rounding.specs.Distance.{zero₊}
 use Rattle.written.specs.Places.{Part}
 use Rattle.cursor.specs.Held.{nodeOf}
-use Rattle.traversal.specs.declared.nodes.Nodes.{Nodes}
-use Rattle.traversal.specs.Standing.{Within}
+use Rattle.steps.specs.declared.nodes.Nodes.{Nodes}
+use Rattle.steps.specs.Standing.{Within}
 
 -- m where none is larger
 abbrev pub largestFrom : Float → List Float → Float

@@ -4,7 +4,7 @@ use Prim.Native.Nat.{ℕ}
 use lib.Ieee.{Float}
 use Rattle.written.specs.Boxes.{Trees}
 use Rattle.written.specs.Answers.{NearRooms}
-use Rattle.traversal.specs.Lent.{stemless}
+use Rattle.steps.specs.Lent.{stemless}
 
 abbrev pub nearRoomsOf : (items : List ℕ) → (distances : List Float) → NearRooms
 nearRoomsOf items distances = record { items = items; distances = distances }

@@ -5,16 +5,16 @@ ghost use lib.ListN.{length};
 ghost use Rattle.written.specs.Nearest.{update};
 ghost use Rattle.metric.specs.Flat.{boxesOf};
 ghost use Rattle.leafnearest.specs.Answers.{answers, Answering};
-ghost use Rattle.traversal.specs.Lent.{stemless};
-ghost use Rattle.traversal.specs.Standing.{pairAt};
-ghost use Rattle.traversal.specs.Ending.{Leaves};
+ghost use Rattle.steps.specs.Lent.{stemless};
+ghost use Rattle.steps.specs.Standing.{pairAt};
+ghost use Rattle.steps.specs.Ending.{Leaves};
 ghost use Rattle.nearest.specs.Apart.{BoxNoFarther};
 ghost use Rattle.nearest.specs.Held.{heldOf, after, FewPairs};
 ghost use Rattle.nearest.specs.Moves.{fateOf};
 use crate::gains::gains;
 use crate::moves::Fate;
-use traversal::Tally;
-use traversal::nodes::Nodes;
+use steps::Tally;
+use steps::nodes::Nodes;
 
 // Both at leaves: the leaf update is lent the left leaf's own stretch of the answers. Where no place of it can gain, nothing would change.
 fn measure<'a>(
@@ -82,7 +82,7 @@ pub fn finish<'a>(
     requires { ⌜ BoxNoFarther (stemless k (now lstarts) (now litems) (now lcoords) (now rstarts) (now ritems) (now rcoords)) (pairAt at (boxesOf (now min) (now max))) ⌝ }
     ensures { λ r. ⌜ heldOf r (now (items .exit)) (now (dists .exit)) ≡ after (stemless k (now (lstarts .entry)) (now (litems .entry)) (now (lcoords .entry)) (now (rstarts .entry)) (now (ritems .entry)) (now (rcoords .entry))) (fateOf fate) (pairAt at (boxesOf [] [])) (heldOf t (now (items .entry)) (now (dists .entry))) ⌝ }
 {
-    let n = traversal::nodes::area(lstarts, rstarts, at);
+    let n = steps::nodes::area(lstarts, rstarts, at);
     match fate {
         Fate::Measured => {
             measure(

@@ -2,12 +2,12 @@
 ghost use mathlib.Core.Path.{_≡_};
 ghost use Prim.Native.Nat.{_≤_};
 ghost use Rattle.metric.specs.Flat.{boxesOf};
-ghost use Rattle.traversal.specs.Standing.{pairAt, Ordered};
+ghost use Rattle.steps.specs.Standing.{pairAt, Ordered};
 ghost use Rattle.nearest.specs.Lent.{leftStarts};
 ghost use Rattle.nearest.specs.Largest.{HeldUnder};
 ghost use Rattle.nearest.specs.Moves.{ruledOutBy, moveOf};
 use crate::largest::not_below;
-use traversal::nodes::Nodes;
+use steps::nodes::Nodes;
 
 pub enum Fate {
     Measured,
@@ -57,10 +57,10 @@ pub fn choose<'a>(
     if ruled_out(k, lstarts, at, min, max, dists) {
         return Move::End(Fate::RuledOut);
     }
-    if traversal::moves::both_leaves(at) {
+    if steps::splitting::both_leaves(at) {
         return Move::End(Fate::Measured);
     }
-    if traversal::moves::splits_right(at) {
+    if steps::splitting::splits_right(at) {
         return Move::Split(1);
     }
     Move::Split(0)

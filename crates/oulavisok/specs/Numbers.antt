@@ -5,7 +5,7 @@ use Prim.Native.Nat.{ℕ}
 use lib.Ieee.{Float}
 use Rattle.written.specs.Boxes.{Trees, Edge}
 use Rattle.written.specs.Answers.{Answer, PairRooms, pairsCall, countsCall, NearRooms, nearestCall}
-use Rattle.traversal.specs.Lent.{roomsOf}
+use Rattle.steps.specs.Lent.{roomsOf}
 use Rattle.nearest.specs.Lent.{nearRoomsOf}
 use Rattle.join.specs.declared.answer.Answer.{Answer as Held}
 

@@ -3,7 +3,7 @@ ghost use mathlib.Core.Path.{_≡_};
 ghost use lib.ListN.{length};
 ghost use Rattle.written.specs.Boxes.{upTo, under};
 ghost use Rattle.written.specs.Spacing.{radiusOf};
-ghost use Rattle.traversal.specs.Lent.{treesOf, roomsOf};
+ghost use Rattle.steps.specs.Lent.{treesOf, roomsOf};
 ghost use Rattle.nearest.specs.Lent.{nearRoomsOf};
 ghost use Rattle.oulavisok.specs.Numbers.{numbers, PairsNumbers, CountsNumbers, NearestNumbers, withNumbers, withNumbersAndRooms, withNumbersAndNearRooms};
 use join::Answer;

@@ -10,12 +10,12 @@ use Rattle.written.specs.Visits.{measured, ruled, whole, ends}
 use Rattle.written.specs.NodePairs.{NodePair, splitsRight, picked, split, visit}
 use Rattle.written.specs.RadiusWalk.{ruledOut, takenWhole, step}
 use Rattle.cursor.specs.Held.{sideOf}
-use Rattle.traversal.specs.declared.moves.Fate.{Fate as Held}
-use Rattle.traversal.specs.declared.moves.Fate.the-variants.{Measured, RuledOut, Whole}
-use Rattle.traversal.specs.declared.moves.Move.the-variants.{End, Split}
-use Rattle.traversal.specs.Moves.{fateOf, moveBy, moveOf}
-use Rattle.traversal.specs.Ending.{MayEnd}
-use Rattle.traversal.proofs.Visiting.{SplitsOn, side-picked}
+use Rattle.steps.proofs.Visiting.{SplitsOn, side-picked}
+use Rattle.radiusvisit.specs.declared.moves.Fate.{Fate as Held}
+use Rattle.radiusvisit.specs.declared.moves.Fate.the-variants.{Measured, RuledOut, Whole}
+use Rattle.radiusvisit.specs.declared.moves.Move.the-variants.{End, Split}
+use Rattle.radiusvisit.specs.Moves.{fateOf, moveBy, moveOf}
+use Rattle.radiusvisit.specs.Ending.{MayEnd}
 
 apart-ruled : ruled ≡ whole → ⊥
 apart-ruled e = let z : _≡_ {A = ℕ} 0 1 = cc in omega arith

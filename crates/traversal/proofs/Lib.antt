@@ -1,15 +1,6 @@
 pub mod Through
-pub mod Waits
-pub mod Halves
-pub mod Pending
-pub mod Reading
-pub mod Going
-pub mod Visiting
-pub mod Taking
 pub mod Radius
 pub mod Chosen
 pub mod Lengths
-pub mod Ended
 pub mod Bounded
 pub mod Turning
-pub mod Sides

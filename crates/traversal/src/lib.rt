@@ -3,28 +3,21 @@ ghost use mathlib.Core.Path.{_≡_};
 ghost use Rattle.written.specs.Answers.{Accepts};
 ghost use Rattle.metric.specs.Edges.{edgeOf};
 ghost use Rattle.rooms.specs.Rooms.{SameRooms};
-ghost use Rattle.traversal.specs.Lent.{treesOf, roomsOf};
-ghost use Rattle.traversal.specs.Work.{workOf, walked};
+ghost use Rattle.steps.specs.Lent.{treesOf, roomsOf};
+ghost use Rattle.radiusvisit.specs.Work.{workOf};
+ghost use Rattle.traversal.specs.Walked.{walked};
 use metric::Boxes;
-
-pub mod descent;
-mod finish;
-pub mod moves;
-pub mod nodes;
-mod tally;
-pub mod waiting;
-
-use crate::descent::descend;
-use crate::finish::finish;
-use crate::moves::Move;
-use crate::moves::choose;
-use crate::nodes::roots;
-use crate::nodes::slot;
-pub use crate::tally::Tally;
-use crate::waiting::Popped;
-use crate::waiting::Waiting;
-use crate::waiting::pop;
-use crate::waiting::top_of;
+use radiusvisit::finish::finish;
+use radiusvisit::moves::Move;
+use radiusvisit::moves::choose;
+use steps::Tally;
+use steps::descent::descend;
+use steps::nodes::roots;
+use steps::nodes::slot;
+use steps::waiting::Popped;
+use steps::waiting::Waiting;
+use steps::waiting::pop;
+use steps::waiting::top_of;
 
 // Each turn visits the node pair at hand, or takes one waiting entry; when nothing waits, the walk is over.
 pub fn walk<'a>(

@@ -12,14 +12,14 @@ use Rattle.written.specs.Totals.{Totals, nearTotals}
 use Rattle.written.specs.Answers.{Accepts}
 use Rattle.metric.specs.Flat.{boxesOf}
 use Rattle.leafnearest.specs.Answers.{Answering}
-use Rattle.traversal.specs.declared.waiting.Popped.the-variants.{Entry}
-use Rattle.traversal.specs.Lent.{treesOf}
-use Rattle.traversal.proofs.Halves.{put-raised}
-use Rattle.traversal.proofs.Waits.{view, taken, pop-takes, some-taken}
-use Rattle.traversal.proofs.Reading.{keeps, ordered-both}
-use Rattle.traversal.proofs.Going.{Going, start, at-hand, none-at-hand, room}
-use Rattle.traversal.proofs.Visiting.{good-here, splits-here, axis-small, slot-small, turn-to-near, turn-to-both}
-use Rattle.traversal.proofs.Taking.{half-axis, half-slot, turn-to-half, side-axis, side-slot, turn-to-back, turn-over}
+use Rattle.steps.specs.declared.waiting.Popped.the-variants.{Entry}
+use Rattle.steps.specs.Lent.{treesOf}
+use Rattle.steps.proofs.Halves.{put-raised}
+use Rattle.steps.proofs.Waits.{view, taken, pop-takes, some-taken}
+use Rattle.steps.proofs.Reading.{keeps, ordered-both}
+use Rattle.steps.proofs.Going.{Going, start, at-hand, none-at-hand, room}
+use Rattle.steps.proofs.Visiting.{good-here, splits-here, axis-small, slot-small, turn-to-near, turn-to-both}
+use Rattle.steps.proofs.Taking.{half-axis, half-slot, turn-to-half, side-axis, side-slot, turn-to-back, turn-over}
 use Rattle.nearest.specs.Held.{Held, heldOf, walked}
 use Rattle.nearest.proofs.Carrying.{begins, nearestWalk}
 use Rattle.nearest.proofs.Turning.{held-begun, tally-examined, leaves-here, held-here, box-here, splits-with, turn-finish, few-examined, unvisited-yet}

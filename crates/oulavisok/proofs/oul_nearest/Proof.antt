@@ -1,6 +1,6 @@
 -- The join's answer, told in numbers. Assumes nothing.
 use borrow.Author.Needs.{needs}
-use Rattle.traversal.specs.Lent.{treesOf}
+use Rattle.steps.specs.Lent.{treesOf}
 use Rattle.nearest.specs.Lent.{nearRoomsOf}
 use Rattle.oulavisok.proofs.Telling.{nearest-numbers}
 use Rattle.oulavisok.proofs.oul_nearest.Statement.{statement}

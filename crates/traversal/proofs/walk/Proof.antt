@@ -13,17 +13,18 @@ use Rattle.written.specs.Laws.Tests.{refused, granted}
 use Rattle.metric.specs.Edges.{edgeOf}
 use Rattle.metric.specs.Flat.{boxesOf}
 use Rattle.rooms.specs.Rooms.{SameRooms}
-use Rattle.traversal.specs.declared.waiting.Popped.the-variants.{Entry}
-use Rattle.traversal.specs.Lent.{treesOf, roomsOf}
-use Rattle.traversal.specs.Work.{Work, workOf, walked}
+use Rattle.steps.specs.declared.waiting.Popped.the-variants.{Entry}
+use Rattle.steps.specs.Lent.{treesOf, roomsOf}
+use Rattle.steps.proofs.Waits.{view, taken, pop-takes, some-taken}
+use Rattle.steps.proofs.Reading.{keeps, ordered-both, leaves-read}
+use Rattle.steps.proofs.Going.{Going, start, at-hand, none-at-hand, room}
+use Rattle.steps.proofs.Halves.{put-lowered}
+use Rattle.steps.proofs.Visiting.{good-here, splits-here, axis-small, slot-small, turn-to-near, turn-to-both}
+use Rattle.steps.proofs.Taking.{half-axis, half-slot, turn-to-half, side-axis, side-slot, turn-to-back, turn-over}
+use Rattle.radiusvisit.specs.Work.{Work, workOf}
+use Rattle.traversal.specs.Walked.{walked}
 use Rattle.traversal.proofs.Through.{tally-none, tally-examined}
-use Rattle.traversal.proofs.Waits.{view, taken, pop-takes, some-taken}
-use Rattle.traversal.proofs.Reading.{keeps, ordered-both, leaves-read}
 use Rattle.traversal.proofs.Lengths.{Alike, alike-rooms}
-use Rattle.traversal.proofs.Going.{Going, start, at-hand, none-at-hand, room}
-use Rattle.traversal.proofs.Halves.{put-lowered}
-use Rattle.traversal.proofs.Visiting.{good-here, splits-here, axis-small, slot-small, turn-to-near, turn-to-both}
-use Rattle.traversal.proofs.Taking.{half-axis, half-slot, turn-to-half, side-axis, side-slot, turn-to-back, turn-over}
 use Rattle.traversal.proofs.Radius.{begins, radiusWalk}
 use Rattle.traversal.proofs.Bounded.{few-examined, unvisited}
 use Rattle.traversal.proofs.Turning.{ends-with, splits-with, turn-finish}

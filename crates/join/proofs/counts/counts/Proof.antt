@@ -5,7 +5,7 @@ use borrow.Author.Needs.{needs}
 use Rattle.written.specs.Boxes.{Trees}
 use Rattle.written.specs.Answers.{Accepts}
 use Rattle.metric.specs.Edges.{edgeOf}
-use Rattle.traversal.specs.Lent.{treesOf}
+use Rattle.steps.specs.Lent.{treesOf}
 use Rattle.join.proofs.Outcomes.{left-refused, right-refused, accepts, counts-refused, counts-told}
 use Rattle.join.proofs.counts.counts.Statement.{statement}
 use Rattle.join.proofs.counts.counts.Tie as tie

@@ -6,7 +6,7 @@ use borrow.Author.Needs.{needs}
 use Rattle.written.specs.Boxes.{Trees}
 use Rattle.written.specs.Answers.{Accepts, NearRooms, nearRoomsAgree, nearRoomOk}
 use Rattle.written.specs.Laws.Tests.{refused, granted}
-use Rattle.traversal.specs.Lent.{treesOf}
+use Rattle.steps.specs.Lent.{treesOf}
 use Rattle.nearest.specs.Lent.{nearRoomsOf}
 use Rattle.join.proofs.Outcomes.{left-refused, right-refused, accepts, nearest-refused, near-rooms-refused, near-room-refused, nearest-told}
 use Rattle.join.proofs.neighbours.nearest.Statement.{statement}

@@ -7,7 +7,7 @@ use Rattle.written.specs.Boxes.{Trees}
 use Rattle.written.specs.Answers.{Accepts, PairRooms, pairRoomsAgree}
 use Rattle.written.specs.Laws.Tests.{refused, granted}
 use Rattle.metric.specs.Edges.{edgeOf}
-use Rattle.traversal.specs.Lent.{treesOf, roomsOf}
+use Rattle.steps.specs.Lent.{treesOf, roomsOf}
 use Rattle.join.proofs.Outcomes.{left-refused, right-refused, accepts, same-rooms, pairs-refused, rooms-refused, pairs-told}
 use Rattle.join.proofs.pairs.pairs.Statement.{statement}
 use Rattle.join.proofs.pairs.pairs.Tie as tie

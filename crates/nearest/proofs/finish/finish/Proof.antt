@@ -10,10 +10,10 @@ use Rattle.written.specs.NodePairs.{NodePair, area}
 use Rattle.written.specs.Nearest.{Neighbour}
 use Rattle.written.specs.Totals.{Totals}
 use Rattle.metric.specs.Flat.{boxesOf}
-use Rattle.traversal.specs.Lent.{stemless}
-use Rattle.traversal.specs.Standing.{pairAt}
-use Rattle.traversal.specs.Work.{adding}
-use Rattle.traversal.proofs.Ended.{area-few}
+use Rattle.steps.specs.Lent.{stemless}
+use Rattle.steps.specs.Standing.{pairAt}
+use Rattle.steps.specs.Counted.{adding}
+use Rattle.steps.proofs.PlacesRead.{area-few}
 use Rattle.nearest.specs.Held.{Held, heldOf, after}
 use Rattle.nearest.specs.Moves.{fateOf}
 use Rattle.nearest.proofs.finish.finish.Statement.{statement}

@@ -8,9 +8,9 @@ use Rattle.written.specs.Boxes.{Trees, Boxes}
 use Rattle.written.specs.NodePairs.{NodePair, area}
 use Rattle.metric.specs.Flat.{boxesOf}
 use Rattle.leaf.specs.Lent.{LeafPair}
-use Rattle.traversal.specs.Lent.{stemless}
-use Rattle.traversal.specs.Standing.{pairAt}
-use Rattle.traversal.proofs.Ended.{PlacesRead, leaves-read}
+use Rattle.steps.specs.Lent.{stemless}
+use Rattle.steps.specs.Standing.{pairAt}
+use Rattle.steps.proofs.PlacesRead.{PlacesRead, leaves-read}
 use Rattle.nearest.proofs.NoGain.{length-lent, no-gain}
 use Rattle.nearest.proofs.Parts.{leaf-put-back}
 use Rattle.nearest.proofs.finish.measure.Statement.{statement}

@@ -6,7 +6,7 @@ use borrow.Author.Needs.{needs}
 use Rattle.written.specs.LentTree.{isLeaf}
 use Rattle.written.specs.NodePairs.{NodePair}
 use Rattle.metric.specs.Flat.{boxesOf}
-use Rattle.traversal.specs.Standing.{pairAt}
+use Rattle.steps.specs.Standing.{pairAt}
 use Rattle.nearest.specs.Lent.{leftStarts}
 use Rattle.nearest.specs.Moves.{ruledOutBy}
 use Rattle.nearest.proofs.moves.choose.Statement.{statement}

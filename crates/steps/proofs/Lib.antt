@@ -1,0 +1,10 @@
+pub mod Sides
+pub mod PlacesRead
+pub mod Counted
+pub mod Waits
+pub mod Halves
+pub mod Pending
+pub mod Reading
+pub mod Going
+pub mod Visiting
+pub mod Taking
