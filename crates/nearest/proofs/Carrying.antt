@@ -18,7 +18,8 @@ use Rattle.steps.specs.Counted.{visited, adding}
 use Rattle.steps.proofs.Halves.{farFirst}
 use Rattle.steps.proofs.Counted.{ofFate, some-visits}
 use Rattle.steps.proofs.Pending.{levelsLeft, OnwardFrom, Walk}
-use Rattle.nearest.specs.Held.{Held, after, walked}
+use Rattle.nearvisit.specs.Held.{Held, after}
+use Rattle.nearest.specs.Walked.{walked}
 
 -- ---- totals added up
 

@@ -11,10 +11,10 @@ use Rattle.written.specs.NodePairs.{NodePair, splitsRight, visit}
 use Rattle.written.specs.Nearest.{Neighbour, nearRuledOut, nearStep}
 use Rattle.cursor.specs.Held.{sideOf}
 use Rattle.steps.proofs.Visiting.{SplitsOn, side-picked}
-use Rattle.nearest.specs.declared.moves.Fate.{Fate as Held}
-use Rattle.nearest.specs.declared.moves.Fate.the-variants.{Measured, RuledOut}
-use Rattle.nearest.specs.declared.moves.Move.the-variants.{End, Split}
-use Rattle.nearest.specs.Moves.{fateOf, moveBy}
+use Rattle.nearvisit.specs.declared.moves.Fate.{Fate as Held}
+use Rattle.nearvisit.specs.declared.moves.Fate.the-variants.{Measured, RuledOut}
+use Rattle.nearvisit.specs.declared.moves.Move.the-variants.{End, Split}
+use Rattle.nearvisit.specs.Moves.{fateOf, moveBy}
 
 module _ (j : Trees) (c : List Neighbour) (s : NodePair) where
   abbrev atLeaves : Bool

@@ -13,8 +13,8 @@ use Rattle.written.specs.NodePairs.{NodePair, noLeaf, leftPart}
 use Rattle.written.specs.Nearest.{Neighbour, answerAt, largest, nearRuledOut}
 use Rattle.leafnearest.specs.Answers.{answers}
 use Rattle.leafnearest.proofs.Stored.{get-answers}
-use Rattle.nearest.specs.Largest.{largestFrom}
-use Rattle.nearest.specs.Moves.{ruledOutBy}
+use Rattle.held.specs.Largest.{largestFrom}
+use Rattle.nearvisit.specs.Moves.{ruledOutBy}
 
 pub largest-is : (items : List ℕ) (distances : List Float) (a n : ℕ) (m : Float) → length items ≡ length distances → a + n ≤ length distances → largestFrom m (take n (drop a distances)) ≡ largest (answers items distances) a n m
 unfolding largest

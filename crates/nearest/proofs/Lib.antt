@@ -1,10 +1,5 @@
 pub mod HeldDistances
-pub mod NoneAbove
-pub mod BoxFar
-pub mod Unchanged
-pub mod OneOf
-pub mod NoGain
-pub mod Parts
+pub mod FirstPlaces
 pub mod Whole
 pub mod Carrying
 pub mod Chosen

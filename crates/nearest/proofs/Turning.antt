@@ -29,15 +29,16 @@ use Rattle.steps.proofs.Pending.{levelsLeft}
 use Rattle.steps.proofs.Reading.{leaves-read}
 use Rattle.steps.proofs.Going.{Going, never-above, still-below}
 use Rattle.steps.proofs.Visiting.{SplitsOn, good-here, turn-end}
-use Rattle.nearest.specs.declared.moves.Fate.{Fate as Fated}
-use Rattle.nearest.specs.declared.moves.Move.{Move}
-use Rattle.nearest.specs.declared.moves.Move.the-variants.{End, Split}
-use Rattle.nearest.specs.Largest.{HeldUnder}
-use Rattle.nearest.specs.Apart.{BoxNoFarther}
-use Rattle.nearest.specs.Moves.{fateOf, moveBy, moveOf, ruledOutBy}
-use Rattle.nearest.specs.Held.{Held, heldOf, after, FewPairs, walked}
+use Rattle.held.specs.Apart.{BoxNoFarther}
+use Rattle.held.proofs.BoxFar.{box-no-farther}
+use Rattle.nearvisit.specs.declared.moves.Fate.{Fate as Fated}
+use Rattle.nearvisit.specs.declared.moves.Move.{Move}
+use Rattle.nearvisit.specs.declared.moves.Move.the-variants.{End, Split}
+use Rattle.nearvisit.specs.Lent.{HeldUnder}
+use Rattle.nearvisit.specs.Moves.{fateOf, moveBy, moveOf, ruledOutBy}
+use Rattle.nearvisit.specs.Held.{Held, heldOf, after, FewPairs}
+use Rattle.nearest.specs.Walked.{walked}
 use Rattle.nearest.proofs.HeldDistances.{ruled-out-is}
-use Rattle.nearest.proofs.BoxFar.{box-no-farther}
 use Rattle.nearest.proofs.Carrying.{unvisited, examined, from-end, nearestWalk, fate-grows, visits-rise}
 use Rattle.nearest.proofs.Chosen.{chosen-end, chosen-split}
 

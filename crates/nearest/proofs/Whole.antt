@@ -21,10 +21,11 @@ use Rattle.written.specs.Laws.Points.{has-points}
 use Rattle.leafnearest.specs.Answers.{answers}
 use Rattle.steps.specs.declared.tally.Tally.{Tally}
 use Rattle.steps.specs.Counted.{totalsHeld}
+use Rattle.nearvisit.specs.Held.{Held, heldOf}
 use Rattle.nearest.specs.Lent.{nearRoomsOf}
-use Rattle.nearest.specs.Held.{Held, heldOf, walked}
+use Rattle.nearest.specs.Walked.{walked}
 use Rattle.nearest.specs.Executed.{Outcome, outcomeOf, executed}
-use Rattle.nearest.proofs.Parts.{length-first, first-again, rest-stays}
+use Rattle.nearest.proofs.FirstPlaces.{length-first, first-again, rest-stays}
 
 outcome-is : {f g : ℕ} {items more : List ℕ} {dists far : List Float} {t u : Totals} → f ≡ g → items ≡ more → dists ≡ far → t ≡ u → _≡_ {A = Outcome} (record { written = f; rooms = nearRoomsOf items dists; totals = t }) (record { written = g; rooms = nearRoomsOf more far; totals = u })
 outcome-is a b c d = rw (a, b, c, d) refl

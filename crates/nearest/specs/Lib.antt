@@ -1,6 +1,3 @@
 pub mod Lent
-pub mod Largest
-pub mod Moves
-pub mod Held
-pub mod Apart
+pub mod Walked
 pub mod Executed

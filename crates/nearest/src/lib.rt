@@ -6,10 +6,15 @@ ghost use Rattle.written.specs.Nearest.{unset, noPoints};
 ghost use Rattle.written.specs.Answers.{Accepts, nearRoomsAgree, nearRoomOk};
 ghost use Rattle.leafnearest.specs.Answers.{answers, Answering};
 ghost use Rattle.steps.specs.Lent.{treesOf};
+ghost use Rattle.nearvisit.specs.Held.{heldOf};
 ghost use Rattle.nearest.specs.Lent.{nearRoomsOf};
-ghost use Rattle.nearest.specs.Held.{heldOf, walked};
+ghost use Rattle.nearest.specs.Walked.{walked};
 ghost use Rattle.nearest.specs.Executed.{outcomeOf, executed};
+use held::beginning::clear;
 use metric::Boxes;
+use nearvisit::finish::finish;
+use nearvisit::moves::Move;
+use nearvisit::moves::choose;
 use steps::Tally;
 use steps::descent::descend;
 use steps::nodes::roots;
@@ -18,17 +23,6 @@ use steps::waiting::Popped;
 use steps::waiting::Waiting;
 use steps::waiting::pop;
 use steps::waiting::top_of;
-
-mod beginning;
-mod finish;
-mod gains;
-mod largest;
-mod moves;
-
-use crate::beginning::clear;
-use crate::finish::finish;
-use crate::moves::Move;
-use crate::moves::choose;
 
 // The radius walk's loop, but the far half is at hand first and the near half waits; the answers held decide what is ruled out.
 fn walk<'a>(

@@ -20,7 +20,8 @@ use Rattle.steps.proofs.Reading.{keeps, ordered-both}
 use Rattle.steps.proofs.Going.{Going, start, at-hand, none-at-hand, room}
 use Rattle.steps.proofs.Visiting.{good-here, splits-here, axis-small, slot-small, turn-to-near, turn-to-both}
 use Rattle.steps.proofs.Taking.{half-axis, half-slot, turn-to-half, side-axis, side-slot, turn-to-back, turn-over}
-use Rattle.nearest.specs.Held.{Held, heldOf, walked}
+use Rattle.nearvisit.specs.Held.{Held, heldOf}
+use Rattle.nearest.specs.Walked.{walked}
 use Rattle.nearest.proofs.Carrying.{begins, nearestWalk}
 use Rattle.nearest.proofs.Turning.{held-begun, tally-examined, leaves-here, held-here, box-here, splits-with, turn-finish, few-examined, unvisited-yet}
 use Rattle.nearest.proofs.walk.Statement.{statement}

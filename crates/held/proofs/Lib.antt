@@ -1,0 +1,4 @@
+pub mod NoneAbove
+pub mod BoxFar
+pub mod Unchanged
+pub mod OneOf
