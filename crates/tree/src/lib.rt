@@ -35,7 +35,7 @@ fn sizes_ok(starts: &[u32], items: &[u32]) -> bool
 }
 
 // The stems over m leaves: none below two leaves, else the next power of two.
-fn stem_count(m: u32) -> usize
+pub fn stem_count(m: u32) -> usize
     requires { ⌜ m ≤ 4096 ⌝ }
     ensures { λ r. ⌜ r ≡ stemCount m ⌝ }
 {
