@@ -1,0 +1,3 @@
+pub mod Printed
+pub mod Shown
+pub mod Example
