@@ -2,7 +2,7 @@
 use mathlib.Core.Path.{_≡_}
 use mathlib.Core.List.{List}
 use Prim.Native.Nat.{ℕ}
-use Rattle.replay.specs.Little.{number32, number64}
+use Rattle.reading.specs.Little.{number32, number64}
 use Rattle.join.specs.declared.answer.Answer.{Answer}
 
 pub record Recorded (s : List ℕ) (a : Answer) : Type 0 where

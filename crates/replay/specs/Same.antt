@@ -4,7 +4,7 @@ use mathlib.Core.List.{List}
 use Prim.Native.Nat.{ℕ, _+_, _*_, _≤_, _<_}
 use lib.ListN.{getD}
 use lib.Ieee.{Float, nan, toBits, binary64}
-use Rattle.replay.specs.Little.{number32, number64}
+use Rattle.reading.specs.Little.{number32, number64}
 
 abbrev pub Bits : Float → ℕ → Type 0
 Bits x b = toBits binary64 x ≡ b

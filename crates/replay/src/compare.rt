@@ -5,9 +5,9 @@ ghost use Prim.Native.Nat.{_+_, _*_, _/_, _≤_};
 ghost use lib.ListN.{length};
 ghost use Rattle.replay.specs.Same.{Bits, PairAt, Stored, Empty, Untouched};
 ghost use Rattle.replay.specs.Recorded.{Recorded, Alike};
-use crate::read::u32_at;
-use crate::read::u64_at;
 use join::Answer;
+use reading::u32_at;
+use reading::u64_at;
 
 // What the rooms are filled with before a call. No recorded item is this number (a nearest answer has it for the left item, which has no room), and no distance is negative.
 pub const EMPTY: u32 = 0xe4e4_e4e4;

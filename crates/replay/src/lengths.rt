@@ -3,7 +3,7 @@ ghost use mathlib.Core.Path.{_≡_};
 ghost use mathlib.Core.Bool.{true};
 ghost use Prim.Native.Nat.{_≤_};
 ghost use Rattle.replay.specs.Fits.{Fits};
-use crate::layout::Layout;
+use reading::Layout;
 
 pub struct Lengths {
     pub lstarts: usize,

@@ -1,14 +1,14 @@
 // The lines that the program writes.
 ghost use mathlib.Core.Path.{_≡_};
 ghost use Prim.Native.Nat.{_<_};
+use crate::tally::TEXT;
 use crate::tally::Tally;
 use libc::STDOUT_FILENO;
 
 // One line: a name and two numbers.
-fn line(name: &[u8], joins: u64, different: u64) {
+fn line(name: &[u8], made: u64, different: u64) {
     io::write_all(STDOUT_FILENO, name);
-    io::write_all(STDOUT_FILENO, b"joins ");
-    io::print_decimal(STDOUT_FILENO, joins);
+    io::print_decimal(STDOUT_FILENO, made);
     io::write_all(STDOUT_FILENO, b" different ");
     io::print_decimal(STDOUT_FILENO, different);
     io::write_all(STDOUT_FILENO, b"\n");
@@ -21,20 +21,28 @@ fn wide(n: u32) -> u64
     n as u64
 }
 
-// Over all kinds.
-fn sum(n: [u32; 6]) -> u64 {
+// Over all joins.
+fn sum(n: [u32; 7]) -> u64 {
     wide(n[0]) + wide(n[1]) + wide(n[2]) + wide(n[3]) + wide(n[4]) + wide(n[5])
 }
 
-// A line for each kind, and one for all.
+// The line of one kind.
+fn kind_line(name: &[u8], t: Tally, kind: usize)
+    requires { ⌜ kind < 7 ⌝ }
+{
+    line(name, wide(t.made[kind]), wide(t.different[kind]));
+}
+
+// A line for each kind, and one for all joins.
 pub fn lines(t: Tally) {
-    let joins = t.joins;
+    kind_line(b"pairs up to: joins ", t, 0);
+    kind_line(b"pairs under: joins ", t, 1);
+    kind_line(b"counts up to: joins ", t, 2);
+    kind_line(b"counts under: joins ", t, 3);
+    kind_line(b"nearest: joins ", t, 4);
+    kind_line(b"texts: jobs ", t, TEXT);
+    kind_line(b"unreadable: joins ", t, 5);
+    let made = t.made;
     let different = t.different;
-    line(b"pairs up to: ", wide(joins[0]), wide(different[0]));
-    line(b"pairs under: ", wide(joins[1]), wide(different[1]));
-    line(b"counts up to: ", wide(joins[2]), wide(different[2]));
-    line(b"counts under: ", wide(joins[3]), wide(different[3]));
-    line(b"nearest: ", wide(joins[4]), wide(different[4]));
-    line(b"unreadable: ", wide(joins[5]), wide(different[5]));
-    line(b"all: ", sum(joins), sum(different));
+    line(b"all: joins ", sum(made), sum(different));
 }

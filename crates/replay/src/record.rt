@@ -1,37 +1,29 @@
-// Record after record: the call that each asks for, and whether it went as recorded.
+// Record after record: the join that each asks for and the text that it prints, and whether both are as recorded.
 ghost use mathlib.Core.Path.{_≡_};
 ghost use Prim.Native.Nat.{_≤_, _<_};
 ghost use lib.ListN.{length};
+ghost use Rattle.reading.specs.Lays.{Within};
 ghost use Rattle.replay.specs.Framed.{Framed};
-ghost use Rattle.replay.specs.Lays.{Lays};
-ghost use Rattle.replay.specs.Fits.{Fits};
-use crate::calling::counts;
-use crate::calling::nearest;
-use crate::calling::pairs;
-use crate::compare::EMPTY;
-use crate::compare::FAR;
-use crate::decode::tree;
+ghost use Rattle.replay.specs.Fits.{Fits, Full};
+use crate::calls::called;
 use crate::frame::Frame;
 use crate::frame::framed;
-use crate::layout::Laid;
-use crate::layout::Layout;
-use crate::layout::lay;
 use crate::lengths::Lengths;
 use crate::lengths::changed;
 use crate::lengths::fits;
 use crate::lengths::own;
 use crate::lengths::sound;
-use crate::read::f64_at;
-use crate::read::u64_at;
+use crate::tally::TEXT;
 use crate::tally::Tally;
 use crate::tally::none;
-
-// A byte, with its bound.
-fn small(b: u8) -> u32
-    ensures { λ r. ⌜ (r ≡ b) × (r < 256) ⌝ }
-{
-    b as u32
-}
+use crate::text::text_same;
+use reading::Laid;
+use reading::Layout;
+use reading::byte_at;
+use reading::decode;
+use reading::f64_at;
+use reading::lay;
+use reading::u64_at;
 
 // Mode 4 has no radius: its bits are zero, else the job is none.
 fn nearest_kind(job: &[u8]) -> u32
@@ -79,203 +71,22 @@ fn kind(job: &[u8]) -> u32
     if job[6] == 4 {
         return nearest_kind(job);
     }
-    small(job[6])
+    byte_at(job, 6)
 }
 
-// Pairs into rooms of the given lengths: whether the answer, what is stored and what is not touched are as recorded.
-fn pairs_same<'a>(
-    under: bool,
-    k: u32,
-    radius: f64,
-    lstarts: &[u32],
-    lstems: &'a [f64],
-    litems: &[u32],
-    lcoords: &[f64],
-    rstarts: &[u32],
-    rstems: &'a [f64],
-    ritems: &[u32],
-    rcoords: &[f64],
-    x: usize,
-    y: usize,
-    z: usize,
-    answer: &[u8],
-    found: &[u8],
-) -> bool
-    requires { ⌜ (x ≤ 1025) × (y ≤ 1025) × (z ≤ 1025) ⌝ }
+// One tree's buffers, in arrays that no job fills.
+fn tree(
+    job: &[u8],
+    l: Layout,
+    starts: &mut [u32; 4098],
+    stems: &mut [f64; 2048],
+    items: &mut [u32; 65537],
+    coords: &mut [f64; 2048],
+)
+    requires { ⌜ (length (now job) ≤ 16384) × (Within (length (now job)) l) ⌝ }
+    ensures { λ _. ⌜ Full (now (starts .exit)) (now (stems .exit)) (now (items .exit)) (now (coords .exit)) ⌝ }
 {
-    let mut lout = [EMPTY; 1025];
-    let mut rout = [EMPTY; 1025];
-    let mut dout = [FAR; 1025];
-    let a = pairs(
-        under,
-        k,
-        radius,
-        lstarts,
-        lstems,
-        litems,
-        lcoords,
-        rstarts,
-        rstems,
-        ritems,
-        rcoords,
-        &mut lout[..x],
-        &mut rout[..y],
-        &mut dout[..z],
-    );
-    if !crate::compare::answer(a, answer) {
-        return false;
-    }
-    crate::compare::rooms(found, &lout, &rout, &dout)
-}
-
-// Counts: no pair is recorded.
-fn counts_same<'a>(
-    under: bool,
-    k: u32,
-    radius: f64,
-    lstarts: &[u32],
-    lstems: &'a [f64],
-    litems: &[u32],
-    lcoords: &[f64],
-    rstarts: &[u32],
-    rstems: &'a [f64],
-    ritems: &[u32],
-    rcoords: &[f64],
-    answer: &[u8],
-    found: &[u8],
-) -> bool {
-    let a = counts(
-        under,
-        k,
-        radius,
-        lstarts,
-        lstems,
-        litems,
-        lcoords,
-        rstarts,
-        rstems,
-        ritems,
-        rcoords,
-    );
-    if !crate::compare::answer(a, answer) {
-        return false;
-    }
-    found.len() == 0
-}
-
-// Nearest into rooms of the given lengths. There is no room for left items: a record has the filling there.
-fn nearest_same<'a>(
-    k: u32,
-    lstarts: &[u32],
-    lstems: &'a [f64],
-    litems: &[u32],
-    lcoords: &[f64],
-    rstarts: &[u32],
-    rstems: &'a [f64],
-    ritems: &[u32],
-    rcoords: &[f64],
-    y: usize,
-    z: usize,
-    answer: &[u8],
-    found: &[u8],
-) -> bool
-    requires { ⌜ (y ≤ 1025) × (z ≤ 1025) ⌝ }
-{
-    let none = [EMPTY; 1025];
-    let mut items = [EMPTY; 1025];
-    let mut dists = [FAR; 1025];
-    let a = nearest(
-        k,
-        lstarts,
-        lstems,
-        litems,
-        lcoords,
-        rstarts,
-        rstems,
-        ritems,
-        rcoords,
-        &mut items[..y],
-        &mut dists[..z],
-    );
-    if !crate::compare::answer(a, answer) {
-        return false;
-    }
-    crate::compare::rooms(found, &none, &items, &dists)
-}
-
-// The call by its mode, over lent buffers.
-fn called<'a>(
-    mode: u32,
-    k: u32,
-    radius: f64,
-    lstarts: &[u32],
-    lstems: &'a [f64],
-    litems: &[u32],
-    lcoords: &[f64],
-    rstarts: &[u32],
-    rstems: &'a [f64],
-    ritems: &[u32],
-    rcoords: &[f64],
-    x: usize,
-    y: usize,
-    z: usize,
-    answer: &[u8],
-    found: &[u8],
-) -> bool
-    requires { ⌜ (x ≤ 1025) × (y ≤ 1025) × (z ≤ 1025) ⌝ }
-{
-    if mode < 2 {
-        return pairs_same(
-            mode == 1,
-            k,
-            radius,
-            lstarts,
-            lstems,
-            litems,
-            lcoords,
-            rstarts,
-            rstems,
-            ritems,
-            rcoords,
-            x,
-            y,
-            z,
-            answer,
-            found,
-        );
-    }
-    if mode == 4 {
-        return nearest_same(
-            k,
-            lstarts,
-            lstems,
-            litems,
-            lcoords,
-            rstarts,
-            rstems,
-            ritems,
-            rcoords,
-            y,
-            z,
-            answer,
-            found,
-        );
-    }
-    counts_same(
-        mode == 3,
-        k,
-        radius,
-        lstarts,
-        lstems,
-        litems,
-        lcoords,
-        rstarts,
-        rstems,
-        ritems,
-        rcoords,
-        answer,
-        found,
-    )
+    decode(job, l, &mut *starts, &mut *stems, &mut *items, &mut *coords);
 }
 
 // Both trees decoded, and lent at the given lengths.
@@ -289,7 +100,7 @@ fn decoded(
     found: &[u8],
 ) -> bool
     requires { ⌜ (16 ≤ length (now job)) × (length (now job) ≤ 16384) ⌝ }
-    requires { ⌜ (Lays (length (now job)) l) × (Lays (length (now job)) r) × (Fits n) ⌝ }
+    requires { ⌜ (Within (length (now job)) l) × (Within (length (now job)) r) × (Fits n) ⌝ }
 {
     let mut lstarts = [0u32; 4098];
     let mut lstems = [0.0f64; 2048];
@@ -301,7 +112,7 @@ fn decoded(
     let mut ritems = [0u32; 65537];
     let mut rcoords = [0.0f64; 2048];
     tree(job, r, &mut rstarts, &mut rstems, &mut ritems, &mut rcoords);
-    let k = small(job[5]);
+    let k = byte_at(job, 5);
     let radius = f64_at(job, 8);
     let a = n.lstarts;
     let b = n.lstems;
@@ -343,7 +154,7 @@ fn job_same(
 ) -> bool
     requires { ⌜ (16 ≤ length (now job)) × (length (now job) ≤ 16384) ⌝ }
 {
-    let k = small(job[5]) as usize;
+    let k = byte_at(job, 5) as usize;
     let Laid::Tree(l) = lay(job, 16, k) else {
         return false;
     };
@@ -363,14 +174,25 @@ fn job_same(
     decoded(job, mode, l, r, n, answer, found)
 }
 
-// One record counted.
+// The text of a record's job.
+fn text_counted(s: &[u8], f: Frame, t: Tally) -> Tally
+    requires { ⌜ Framed 0 (length (now s)) f ⌝ }
+{
+    let a = f.job;
+    let b = f.answer;
+    let d = f.text;
+    let e = f.end;
+    t.counting(TEXT, text_same(&s[a..b], &s[d..e]))
+}
+
+// The join that it asks for.
 fn counted(s: &[u8], f: Frame, t: Tally) -> Tally
     requires { ⌜ Framed 0 (length (now s)) f ⌝ }
 {
     let a = f.job;
     let b = f.answer;
     let c = f.pairs;
-    let d = f.end;
+    let d = f.text;
     let mode = kind(&s[a..b]);
     if mode < 5 {
         let same = job_same(&s[a..b], mode, f.room, f.buffer, f.lent, &s[b..c], &s[c..d]);
@@ -385,6 +207,7 @@ pub fn replay(s: &[u8]) -> Tally {
     let mut at = 0;
     while at < s.len() {
         let f = framed(s, at);
+        t = text_counted(s, f, t);
         t = counted(s, f, t);
         at = f.end;
     }

@@ -1,16 +1,18 @@
-// How many joins of each kind were made, and how many differ. Kinds 0 to 4 are the modes; kind 5 is what no mode can be read of.
+// How many were compared of each kind, and how many differ. Kinds 0 to 4 are the made of a mode; kind 5 is what no mode can be read of; kind 6 is the text of a job.
 ghost use Prim.Native.Nat.{_<_};
 
+pub const TEXT: usize = 6;
+
 pub struct Tally {
-    pub joins: [u32; 6],
-    pub different: [u32; 6],
+    pub made: [u32; 7],
+    pub different: [u32; 7],
 }
 
 // Nothing counted yet.
 pub fn none() -> Tally {
     Tally {
-        joins: [0; 6],
-        different: [0; 6],
+        made: [0; 7],
+        different: [0; 7],
     }
 }
 
@@ -23,12 +25,12 @@ fn more(n: u32) -> u32 {
 }
 
 impl Tally {
-    // One join more, alike or different.
+    // One more of a kind, alike or different.
     pub fn counting(self, kind: usize, same: bool) -> Self
-        requires { ⌜ kind < 6 ⌝ }
+        requires { ⌜ kind < 7 ⌝ }
     {
         let mut t = self;
-        t.joins[kind] = more(t.joins[kind]);
+        t.made[kind] = more(t.made[kind]);
         if !same {
             t.different[kind] = more(t.different[kind]);
         }

@@ -1,18 +1,23 @@
 -- Both trees are laid out within the job, and the lengths fit. Assumes nothing.
-use mathlib.Core.Path.{subst}
-use lib.ListN.{length}
-use denote.Ref.{now}
-use borrow.Author.Tests.{not-false}
-use Rattle.replay.specs.Lays.{LaysOut}
+use mathlib.Core.Path.{_≡_, subst}
+use mathlib.Core.List.{List}
+use Prim.Native.Nat.{ℕ}
 use borrow.Author.Needs.{needs}
+use borrow.Author.Tests.{not-false}
+use Rattle.reading.specs.Lays.{Lays, LaidOut}
+use Rattle.reading.specs.Laws.{within, end-within}
+use Rattle.reading.specs.declared.layout.Layout.{Layout}
+use Rattle.reading.specs.declared.layout.Laid.{Laid}
+use Rattle.reading.specs.declared.layout.Laid.the-variants.{Tree}
 use Rattle.replay.proofs.record.job_same.Statement.{statement}
 use Rattle.replay.proofs.record.job_same.Tie as tie
 
-shared-slice-read-small : tie.Need-shared-slice-read-small
-shared-slice-read-small c = search needs
+-- the layout of a tree that was found
+found : (K : ℕ) (s : List ℕ) (at : ℕ) (r : Laid) (l : Layout) → r ≡ Tree l → LaidOut K s at r → Lays K s at l
+found K s at r l e h = subst (LaidOut K s at) e h
 
-small-requires : tie.Need-small-requires
-small-requires c κs = search needs
+byte-at-requires : tie.Need-byte-at-requires
+byte-at-requires c κs = search needs
 
 cast-k : tie.Need-cast-k
 cast-k c = search needs
@@ -30,7 +35,9 @@ returns : tie.Need-returns
 returns c = search needs
 
 lay-requires-2 : tie.Need-lay-requires-2
-lay-requires-2 c κs = (subst (LaysOut (length (now (c .before .before .before .before .before .before .before .before .before .args .job)))) (c .before .l .given .1) (c .before .before .before .lay .ensures) .within, c .before .before .before .before .before .before .before .before .before .pre .1, c .before .before .before .before .small .ensures .1)
+lay-requires-2 c κs =
+    let laid = found _ _ _ _ _ (c .before .l .given .1) (c .before .before .before .lay .ensures) in
+    (end-within laid, c .before .before .before .before .before .before .before .before .pre .1, c .before .before .before .before .byte-at .ensures .1)
 
 enum-known-r : tie.Need-enum-known-r
 enum-known-r c = search needs
@@ -64,8 +71,9 @@ returns-5 c = search needs
 
 decoded-requires : tie.Need-decoded-requires
 decoded-requires c κs =
-    let n = length (now (c .before .before .before .before .before .before .before .before .before .before .before .before .before .before .before .before .before .before .before .before .before .args .job)) in
-    (c .before .before .before .before .before .before .before .before .before .before .before .before .before .before .before .before .before .before .before .before .before .pre, (subst (LaysOut n) (c .before .before .before .before .before .before .before .before .before .before .before .before .before .l .given .1) (c .before .before .before .before .before .before .before .before .before .before .before .before .before .before .before .lay .ensures), subst (LaysOut n) (c .before .before .before .before .before .before .before .before .before .r .given .1) (c .before .before .before .before .before .before .before .before .before .before .before .lay2 .ensures), c .before .fits2 .ensures (not-false _ (c .if3 .left))))
+    let left = found _ _ _ _ _ (c .before .before .before .before .before .before .before .before .before .before .before .before .before .l .given .1) (c .before .before .before .before .before .before .before .before .before .before .before .before .before .before .before .lay .ensures) in
+    let right = found _ _ _ _ _ (c .before .before .before .before .before .before .before .before .before .r .given .1) (c .before .before .before .before .before .before .before .before .before .before .before .lay2 .ensures) in
+    (c .before .before .before .before .before .before .before .before .before .before .before .before .before .before .before .before .before .before .before .before .pre, (within left, within right, c .before .fits2 .ensures (not-false _ (c .if3 .left))))
 
 returns-6 : tie.Need-returns-6
 returns-6 c = search needs
@@ -74,8 +82,7 @@ pub job-same-spec : {M : Type 1} → statement M
 job-same-spec =
     tie.close
     (tie.spec
-    shared-slice-read-small
-    small-requires
+    byte-at-requires
     cast-k
     lay-requires
     enum-known-l

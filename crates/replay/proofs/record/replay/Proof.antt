@@ -20,6 +20,9 @@ loop-holds c = search needs
 framed-requires : tie.Need-framed-requires Inv-loop μ-loop
 framed-requires c κs = search needs
 
+text-counted-requires : tie.Need-text-counted-requires Inv-loop μ-loop
+text-counted-requires c κs = search needs
+
 counted-requires : tie.Need-counted-requires Inv-loop μ-loop
 counted-requires c κs = search needs
 
@@ -41,6 +44,7 @@ replay-spec =
     none-requires
     loop-holds
     framed-requires
+    text-counted-requires
     counted-requires
     loop-less
     loop-again

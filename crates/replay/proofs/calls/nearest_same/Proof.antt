@@ -2,8 +2,8 @@
 use mathlib.Core.Path.{sym}
 use lib.Seq.{length-take-le}
 use borrow.Author.Needs.{needs}
-use Rattle.replay.proofs.record.nearest_same.Statement.{statement}
-use Rattle.replay.proofs.record.nearest_same.Tie as tie
+use Rattle.replay.proofs.calls.nearest_same.Statement.{statement}
+use Rattle.replay.proofs.calls.nearest_same.Tie as tie
 
 array-borrow-prefix-items : tie.Need-array-borrow-prefix-items
 array-borrow-prefix-items c = search needs

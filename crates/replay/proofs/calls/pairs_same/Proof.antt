@@ -2,8 +2,8 @@
 use mathlib.Core.Path.{sym}
 use lib.Seq.{length-take-le}
 use borrow.Author.Needs.{needs}
-use Rattle.replay.proofs.record.pairs_same.Statement.{statement}
-use Rattle.replay.proofs.record.pairs_same.Tie as tie
+use Rattle.replay.proofs.calls.pairs_same.Statement.{statement}
+use Rattle.replay.proofs.calls.pairs_same.Tie as tie
 
 array-borrow-prefix-lout : tie.Need-array-borrow-prefix-lout
 array-borrow-prefix-lout c = search needs
