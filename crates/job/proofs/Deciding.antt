@@ -17,6 +17,7 @@ use Rattle.printing.specs.Puts.{Puts}
 use Rattle.printing.specs.Putting.{puts-stored}
 use Rattle.printing.specs.Text.{refusedLine}
 use Rattle.job.specs.Printed.{joinText, printedBy, printed}
+use Rattle.job.specs.Shown.{Ran}
 
 module _ (s : List ℕ) where
   -- ---- an accepted header's size
@@ -81,7 +82,5 @@ module _ (s : List ℕ) where
         same-end e = three _ _ _ .1 (left-lays .fits, right-lays .fits, eq-eqb _ _ (sym (right-lays .end-at) ∙ e))
 
   -- ---- what is left in the buffer
-  pub finished : {before after : List ℕ} {t : List ℕ} {n : ℕ} → Puts before 0 t after n → t ≡ printed s → n ≤ 65536
-      → (after ≡ stored (printed s) before) × ((n ≡ length (printed s)) × (n ≤ 65536))
-  finished {before} {after} {t} {n} p e h =
-      (puts-stored p ∙ ap (λ (x : List ℕ). stored x before) e, (omega (arith, p .counted, ap length e), h))
+  pub finished : {before after : List ℕ} {t : List ℕ} {n : ℕ} → Puts before 0 t after n → t ≡ printed s → n ≤ 65536 → Ran s before after n
+  finished {before} {after} {t} {n} p e h = (puts-stored p ∙ ap (λ (x : List ℕ). stored x before) e, omega (arith, p .counted, ap length e), h)

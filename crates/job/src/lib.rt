@@ -2,11 +2,10 @@
 ghost use mathlib.Core.Path.{_≡_};
 ghost use Prim.Native.Nat.{_≤_};
 ghost use lib.ListN.{length};
-ghost use Rattle.written.specs.Answers.{stored};
 ghost use Rattle.reading.specs.Lays.{Lays};
 ghost use Rattle.reading.specs.Header.{axes, mode, radius, trees, rightAt};
-ghost use Rattle.job.specs.Printed.{joinText, printed};
-ghost use Rattle.job.specs.Shown.{Prints};
+ghost use Rattle.job.specs.Printed.{joinText};
+ghost use Rattle.job.specs.Shown.{Prints, Ran};
 use reading::Laid;
 use reading::Layout;
 use reading::byte_at;
@@ -65,8 +64,7 @@ fn joined(s: &[u8], l: Layout, r: Layout, out: &mut [u8]) -> usize
 
 // The text of a job: its bytes go to the start of out, as far as there is room, and the answer is how many there are.
 pub fn run(s: &[u8], out: &mut [u8]) -> usize
-    ensures { λ n. ⌜ now (out .exit) ≡ stored (printed (now (s .entry))) (now (out .entry)) ⌝ }
-    ensures { λ n. ⌜ (n ≡ length (printed (now (s .entry)))) × (n ≤ 65536) ⌝ }
+    ensures { λ n. ⌜ Ran (now (s .entry)) (now (out .entry)) (now (out .exit)) n ⌝ }
 {
     let number = reading::header_refusal(s);
     if number != 0 {
