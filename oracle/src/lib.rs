@@ -5,6 +5,9 @@
 //! prepared once: for timing. [`api`] takes them as values: for comparing.
 //! [`ours`] calls the Rattle library `beside` through its C interface; whole
 //! joins are called by ../bindings/rust.
+//!
+//! [`rules`], [`tally`], [`near_tally`] and [`job`] are plain readings of the
+//! scope paper, over trees as lists ([`lots`]).
 
 // The source's crates from the registry: `names.rs` has what it imports.
 extern crate self as aligned_vec;
@@ -24,5 +27,13 @@ use traits::stem_strategy::StemStrategy;
 pub use kd_tree::query::tree::driver as rust;
 
 pub mod api;
+pub mod ask;
+pub mod examples;
+pub mod job;
+pub mod lots;
+pub mod near_tally;
 pub mod ours;
+pub mod points;
 pub mod rng;
+pub mod rules;
+pub mod tally;

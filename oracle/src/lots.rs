@@ -1,9 +1,9 @@
 //! Lent trees as lists, and sound ones grown over leaves of given sizes.
 
+use crate::api;
 use crate::points::Source;
+use crate::rng::Rng;
 use crate::rules::levels;
-use oracle::api;
-use oracle::rng::Rng;
 
 /// The buffers of a lent tree, and K.
 #[derive(Clone)]

@@ -1,32 +1,30 @@
 //! Compares the Rattle library with the Rust, bit for bit, on generated cases,
 //! and what the Rust has not, the tree check and the totals, with plain readings
-//! of the scope paper.
+//! of the scope paper. The part `jobs` runs the program `joinjob`.
 //!
 //!     cargo run --release -- [--seed N] [--percent N] [--only nearest]
 //!
 //! `--percent` makes more (or fewer) cases than the usual hundred; `--only` runs
-//! one part: leaves, bounds, trees, joins, refusals, radii or nearest. The exit
-//! status is 1 at any difference.
+//! one part: leaves, bounds, trees, joins, refusals, radii, nearest or jobs. The
+//! exit status is 1 at any difference.
 
 mod bounds;
 mod cases;
+mod jobs;
+mod joinjob;
 mod joins;
 mod leaves;
-mod lots;
-mod near_tally;
 mod nearest;
-mod points;
 mod radii;
 mod refusals;
 mod report;
 mod rooms;
-mod rules;
 mod shapes;
 mod stands;
-mod tally;
 mod trees;
 
 use oracle::rng::Rng;
+use oracle::{lots, near_tally, points, rules, tally};
 use report::Report;
 use std::process::ExitCode;
 
@@ -39,7 +37,7 @@ fn main() -> ExitCode {
     let mut report = Report::default();
     // Each part has a generator of its own, so that more cases in one leave
     // the others as they are.
-    let parts: [(&str, Compare, u64); 8] = [
+    let parts: [(&str, Compare, u64); 9] = [
         ("leaves", leaves::compare, 100_000),
         ("bounds", bounds::compare, 200_000),
         ("trees", trees::compare, 40_000),
@@ -48,14 +46,19 @@ fn main() -> ExitCode {
         ("radii", radii::compare, 20_000),
         ("nearest", nearest::compare, 22_000),
         ("nearest", nearest::refused, 12_000),
+        ("jobs", jobs::compare, 20_000),
     ];
     let known = |only: &String| parts.iter().any(|part| part.0 == only);
     if !asked.only.iter().all(known) {
         eprintln!("no such part");
         return ExitCode::from(2);
     }
+    let wanted = |part| asked.only.as_deref().is_none_or(|only| only == part);
+    if wanted("jobs") && !joinjob::is_there() {
+        return ExitCode::from(2);
+    }
     for (seed, (part, compare, usual)) in (asked.seed..).zip(parts) {
-        if asked.only.as_deref().is_none_or(|only| only == part) {
+        if wanted(part) {
             let cases = usual * asked.percent / 100;
             compare(&mut report, &mut Rng::new(seed), cases);
         }

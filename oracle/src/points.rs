@@ -1,6 +1,6 @@
 //! Coordinates of all the kinds that leaves and boxes are tried on.
 
-use oracle::rng::Rng;
+use crate::rng::Rng;
 
 #[derive(Clone, Copy, Debug)]
 pub enum Kind {

@@ -3,8 +3,8 @@
 //! and a stack.
 
 use crate::lots::Lot;
+use crate::rng::Rng;
 use crate::rules::levels;
-use oracle::rng::Rng;
 use std::ops::Range;
 
 #[derive(Clone, Copy)]

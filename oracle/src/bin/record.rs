@@ -1,10 +1,13 @@
-//! Records joins for the program crate `replay`: what each call is given, and
-//! what the Rust answers. Writes `stdin` and `stdout` of that crate.
+//! Records joins for the program crate `replay`: what each call is given, what
+//! the Rust answers, and what the job program prints for the same job. Writes
+//! `stdin` and `stdout` of that crate. Then records jobs for the program crate
+//! `jobs` in the same way (`record/jobs/mod.rs`), and writes `examples`.
 //!
-//!     cargo run --release --features exact_query_stats --bin record -- [FOLDER]
+//!     cargo run --release --features exact_query_stats --bin record -- [ROOT]
 //!
-//! FOLDER is `../crates/replay` unless given. The same cases come out at every
-//! run. `record/expect.rs` says where each number of an answer comes from.
+//! ROOT, with these folders in it, is the repository's unless given. The same
+//! cases come out at every run. `record/expect.rs` says where each number of an answer comes from, and
+//! `../job.rs` where a text does; `record/file.rs` has the form of a record.
 
 #[path = "record/cases.rs"]
 mod cases;
@@ -16,36 +19,36 @@ mod expect;
 mod file;
 #[path = "record/grow.rs"]
 mod grow;
-#[allow(dead_code)]
-#[path = "../lots.rs"]
-mod lots;
+#[path = "record/jobs/mod.rs"]
+mod jobs;
 #[path = "record/nearest.rs"]
 mod nearest;
 #[path = "record/nearest_refused.rs"]
 mod nearest_refused;
-#[allow(dead_code)]
-#[path = "../points.rs"]
-mod points;
 #[path = "record/refused.rs"]
 mod refused;
-#[path = "../rules.rs"]
-mod rules;
 #[path = "record/stands.rs"]
 mod stands;
 
 use file::Case;
 use oracle::rng::Rng;
+use oracle::{lots, points, rules};
 use std::collections::BTreeMap;
-use std::path::PathBuf;
+use std::path::{Path, PathBuf};
 
 /// The program's limit on its input.
-const LIMIT: usize = 524_288;
+const LIMIT: usize = 1_048_576;
 
 fn main() {
-    let folder = std::env::args().nth(1).map_or_else(
-        || PathBuf::from(concat!(env!("CARGO_MANIFEST_DIR"), "/../crates/replay")),
+    let root = std::env::args().nth(1).map_or_else(
+        || PathBuf::from(concat!(env!("CARGO_MANIFEST_DIR"), "/..")),
         PathBuf::from,
     );
+    joins(&root.join("crates/replay"));
+    jobs::write(&root);
+}
+
+fn joins(folder: &Path) {
     let mut all = stands::all();
     cases::all(&mut all, &mut Rng::new(1));
     refused::all(&mut all, &mut Rng::new(2));
@@ -162,5 +165,6 @@ fn lines(joins: [u32; 5]) -> String {
         text.push_str(&format!("{name}: joins {joins} different 0\n"));
     }
     let all: u32 = joins.iter().sum();
+    text.push_str(&format!("texts: jobs {all} different 0\n"));
     text + &format!("unreadable: joins 0 different 0\nall: joins {all} different 0\n")
 }

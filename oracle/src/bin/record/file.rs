@@ -2,9 +2,8 @@
 
 use crate::expect::Answer;
 use crate::lots::Lot;
-
-/// The mode of a nearest job; its radius is 0.
-pub const NEAREST: u8 = 4;
+pub use oracle::ask::NEAREST;
+use oracle::{ask, job};
 
 /// One join. The trees are as the job says; one of the eleven buffers (1 to 8
 /// the trees', 9 to 11 the rooms) may be lent at another length.
@@ -67,11 +66,16 @@ impl Case {
 /// no room for left items: an answer has this in their place.
 pub const EMPTY: u32 = 0xe4e4_e4e4;
 
+/// Job length, room, buffer, its length, text length; the job, the answer and the
+/// pairs stored; then the text that the job program prints for the job, whatever
+/// room and buffer are here: its rooms and lengths are its own.
 pub fn record(case: &Case, answer: &Answer) -> Vec<u8> {
     let job = job(case);
-    assert!(job.len() <= 16_384 && case.room <= 1024 && case.buffer <= 11);
+    assert!(job.len() <= job::LIMIT && case.room <= 1024 && case.buffer <= 11);
+    let text = job::text(&job);
+    let (length, printed) = (job.len() as u32, text.len() as u32);
     let mut out = vec![];
-    for x in [job.len() as u32, case.room, case.buffer, case.lent] {
+    for x in [length, case.room, case.buffer, case.lent, printed] {
         out.extend(x.to_le_bytes());
     }
     out.extend(job);
@@ -92,33 +96,16 @@ pub fn record(case: &Case, answer: &Answer) -> Vec<u8> {
         out.extend(right.to_le_bytes());
         out.extend(distance.to_bits().to_le_bytes());
     }
+    out.extend(text.into_bytes());
     out
 }
 
 fn job(case: &Case) -> Vec<u8> {
-    let k = u8::try_from(case.left.k).unwrap();
     assert!(!case.nearest() || case.radius.to_bits() == 0);
-    let mut out = b"KDJ\x01\x00".to_vec();
-    out.extend([k, case.mode, 0]);
-    out.extend(case.radius.to_bits().to_le_bytes());
     for lot in [&case.left, &case.right] {
-        let (m, n) = (lot.starts.len() - 1, lot.items.len());
+        let (m, n) = (lot.leaves(), lot.items.len());
         let stems = if m < 2 { 0 } else { m.next_power_of_two() };
-        assert!(lot.stems.len() == stems && lot.coords.len() == k as usize * n);
-        let numbers = |list: &[u32]| {
-            list.iter()
-                .flat_map(|x| x.to_le_bytes())
-                .collect::<Vec<_>>()
-        };
-        let floats = |list: &[f64]| {
-            let bits = list.iter().map(|x| x.to_bits());
-            bits.flat_map(u64::to_le_bytes).collect::<Vec<_>>()
-        };
-        out.extend(numbers(&[m as u32, n as u32]));
-        out.extend(numbers(&lot.starts));
-        out.extend(floats(&lot.stems));
-        out.extend(numbers(&lot.items));
-        out.extend(floats(&lot.coords));
+        assert!(lot.stems.len() == stems && lot.coords.len() == case.left.k as usize * n);
     }
-    out
+    ask::bytes(case.mode, case.radius, [&case.left, &case.right])
 }

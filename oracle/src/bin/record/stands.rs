@@ -1,85 +1,53 @@
 //! The stand examples A1 to A9, B1 to B3, C1 to C3; and nearest over B's trees.
 
 use crate::file::{Case, NEAREST};
-use crate::lots::Lot;
+use oracle::ask::Ask;
+use oracle::examples::example;
 
-fn lot(k: u32, starts: &[u32], stems: &[f64], items: &[u32], coords: &[f64]) -> Lot {
-    Lot {
-        k,
-        starts: starts.to_vec(),
-        stems: stems.to_vec(),
-        items: items.to_vec(),
-        coords: coords.to_vec(),
-    }
-}
-
-fn a() -> [Lot; 2] {
-    let coords = [1.0, 4.0, 4.0, 7.0, 1.0, 2.0, 6.0, 1.0];
-    [
-        lot(2, &[0, 2, 4], &[0.0, 4.0], &[10, 11, 12, 13], &coords),
-        lot(2, &[0, 2], &[], &[20, 21], &[1.0, 7.0, 5.0, 1.0]),
-    ]
-}
-
-fn b() -> [Lot; 2] {
-    [
-        lot(1, &[0, 1, 2], &[0.0, 0.0], &[1, 2], &[-5.0, 5.0]),
-        lot(1, &[0, 1, 2], &[0.0, 3.0], &[3, 4], &[-5.0, 5.0]),
-    ]
-}
-
-/// One point on each side.
-fn two(item: u32, x: f64, other: u32, y: f64) -> [Lot; 2] {
-    [(item, x), (other, y)].map(|(item, x)| lot(1, &[0, 1], &[], &[item], &[x]))
-}
-
-fn c1() -> [Lot; 2] {
-    let [left, _] = two(1, 0.0, 0, 0.0);
-    [left, lot(1, &[0, 1, 2], &[0.0, 0.0], &[5, 6], &[-1.0, 1.0])]
-}
-
+/// Each with its room. A9 is A1 with room for two.
 pub fn all() -> Vec<Case> {
-    let inf = f64::INFINITY;
-    let far = || two(1, -1e200, 7, 1e200);
-    let tenth = two(1, 0.0, 2, 0.1);
     let list = [
-        (a(), 0, 10.0, 8),
-        (a(), 1, 10.0, 8),
-        (a(), 1, 0.0, 8),
-        (a(), 0, f64::NAN, 8),
-        (a(), 0, -1.0, 8),
-        (a(), 2, inf, 0),
-        (a(), 3, inf, 0),
-        (a(), 0, 10.0, 2),
-        (b(), 0, 1.0, 4),
-        (b(), 0, 9.0, 4),
-        (b(), 1, 9.0, 4),
-        (far(), 0, inf, 1),
-        (far(), 1, inf, 1),
-        (tenth, 0, 0.01, 1),
-        (c1(), 0, 1.0, 2),
+        ("a1", 8),
+        ("a2", 8),
+        ("a3", 8),
+        ("a4", 8),
+        ("a5", 8),
+        ("a6", 0),
+        ("a7", 0),
+        ("a1", 2),
+        ("b1", 4),
+        ("b2", 4),
+        ("b3", 4),
+        ("c2-up-to", 1),
+        ("c2-under", 1),
+        ("c3", 1),
+        ("c1-pairs", 2),
     ];
-    list.into_iter().map(case).collect()
+    list.map(|(name, room)| case(example(name), room)).into()
 }
 
 /// A8, C1, C2, and the trees of B.
 pub fn nearest() -> Vec<Case> {
-    let list = [
-        (a(), NEAREST, 0.0, 4),
-        (c1(), NEAREST, 0.0, 1),
-        (two(1, -1e200, 7, 1e200), NEAREST, 0.0, 1),
-        (b(), NEAREST, 0.0, 2),
-    ];
-    list.into_iter().map(case).collect()
+    let b = Ask {
+        mode: NEAREST,
+        radius: 0.0,
+        ..example("b1")
+    };
+    vec![
+        case(example("a8"), 4),
+        case(example("c1-nearest"), 1),
+        case(example("c2-nearest"), 1),
+        case(b, 2),
+    ]
 }
 
-fn case(([left, right], mode, radius, room): ([Lot; 2], u8, f64, u32)) -> Case {
+fn case(ask: Ask, room: u32) -> Case {
     Case {
         kind: "stand example",
-        mode,
-        radius,
-        left,
-        right,
+        mode: ask.mode,
+        radius: ask.radius,
+        left: ask.left,
+        right: ask.right,
         room,
         buffer: 0,
         lent: 0,
