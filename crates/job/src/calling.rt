@@ -1,5 +1,4 @@
 // Both readings of the radius, by a value: "under", or else "up to".
-ghost use mathlib.Core.Path.{_≡_};
 ghost use Rattle.metric.specs.Edges.{edgeOf};
 ghost use Rattle.steps.specs.Lent.{treesOf, roomsOf};
 ghost use Rattle.join.specs.Told.{PairsTold, CountsTold, withRooms};

@@ -1,5 +1,4 @@
 // The job program as a function: the bytes of a job in, the bytes of its text out. Added by the port.
-ghost use mathlib.Core.Path.{_≡_};
 ghost use Prim.Native.Nat.{_≤_};
 ghost use lib.ListN.{length};
 ghost use Rattle.reading.specs.Lays.{Lays};

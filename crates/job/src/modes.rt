@@ -1,6 +1,4 @@
 // The joins that a job can ask for, each with its text.
-ghost use mathlib.Core.Path.{_≡_};
-ghost use Prim.Native.Nat.{_≤_};
 ghost use Rattle.metric.specs.Edges.{edgeOf};
 ghost use Rattle.steps.specs.Lent.{treesOf};
 ghost use Rattle.job.specs.Printed.{pairsText, countsText, nearestText, joinText};

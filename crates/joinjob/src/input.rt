@@ -1,5 +1,4 @@
 // All of the input, or as much of it as there is room for.
-ghost use Prim.Native.Nat.{_≤_};
 ghost use lib.ListN.{length};
 ghost use Rattle.joinjob.specs.Read.{Read};
 

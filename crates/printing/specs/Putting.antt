@@ -1,11 +1,12 @@
 -- Texts put one after the other, and what stands in a buffer whose start they were put at. Assumes nothing.
 use mathlib.Core.Path.{_≡_, refl, sym, ap, _∙_}
 use mathlib.Core.List.{List, [], _∷_, _++_}
-use Prim.Native.Nat.{ℕ, zero, suc, _+_}
+use Prim.Native.Nat.{ℕ, suc, _+_}
 use native.Mathlib.Omega.{arith}
 use lib.ListN.{length, set, length-append}
 use lib.Seq.{sets, length-sets}
 use Rattle.written.specs.Answers.{stored}
+use Rattle.written.specs.Laws.Rooms.{sets-stored}
 use Rattle.printing.specs.Puts.{Puts}
 
 pub puts-nothing : {b : List ℕ} {at : ℕ} → Puts b at [] b at
@@ -32,22 +33,6 @@ pub puts-length : {b c : List ℕ} {at n : ℕ} {t : List ℕ} → Puts b at t c
 puts-length {b} {c} {at} {n} {t} p = ap length (p .stored) ∙ length-sets b at t
 
 -- ---- from the start
-
-sets-nil : (n : ℕ) (l : List ℕ) → sets [] n l ≡ []
-sets-nil n [] = refl
-sets-nil zero (x ∷ l) = sets-nil 1 l
-sets-nil (suc n) (x ∷ l) = sets-nil (suc (suc n)) l
-
-sets-cons : (y : ℕ) (ys : List ℕ) (n : ℕ) (l : List ℕ) → sets (y ∷ ys) (suc n) l ≡ y ∷ sets ys n l
-sets-cons y ys n [] = refl
-sets-cons y ys n (x ∷ l) = sets-cons y (set ys n x) (suc n) l
-
-sets-stored : (l b : List ℕ) → sets b 0 l ≡ stored l b
-unfolding stored
-sets-stored [] [] = refl
-sets-stored [] (y ∷ b) = refl
-sets-stored (x ∷ l) [] = sets-nil 1 l
-sets-stored (x ∷ l) (y ∷ b) = sets-cons x b 0 l ∙ ap (_∷_ x) (sets-stored l b)
 
 pub puts-stored : {b c : List ℕ} {t : List ℕ} {n : ℕ} → Puts b 0 t c n → c ≡ stored t b
 puts-stored {b} {c} {t} p = p .stored ∙ sets-stored t b

@@ -1,5 +1,4 @@
 // The lines of an answer.
-ghost use mathlib.Core.Path.{_≡_};
 ghost use Prim.Native.Nat.{_+_, _*_, _≤_};
 ghost use lib.ListN.{length};
 ghost use Rattle.printing.specs.Text.{line as lineOf, lines as linesOf, firstLine, refusedLine, totalsLine};

@@ -1,5 +1,4 @@
 // Record after record: the join that each asks for and the text that it prints, and whether both are as recorded.
-ghost use mathlib.Core.Path.{_≡_};
 ghost use Prim.Native.Nat.{_≤_, _<_};
 ghost use lib.ListN.{length};
 ghost use Rattle.reading.specs.Lays.{Within};

@@ -2,18 +2,18 @@
 use mathlib.Core.Path.{_≡_, refl, ap, _∙_}
 use mathlib.Core.List.{List, [], _∷_, _++_, map}
 use mathlib.Core.Bool.{Bool}
-use Prim.Native.Nat.{ℕ, zero, suc, _+_}
+use Prim.Native.Nat.{ℕ, suc, _+_}
 use native.Mathlib.Omega.{arith}
 use lib.ListN.{length, set}
 use lib.Seq.{sets}
 use lib.Ieee.{Float}
 use Rattle.written.specs.LentTree.{start}
-use Rattle.written.specs.Boxes.{Trees, Edge}
+use Rattle.written.specs.Boxes.{Trees}
 use Rattle.written.specs.NodePairs.{NodePair}
-use Rattle.written.specs.RadiusWalk.{Found, keep, leafPair}
-use Rattle.written.specs.Answers.{PairRooms, stored, pairsStored}
+use Rattle.written.specs.RadiusWalk.{Found, leafPair}
+use Rattle.written.specs.Answers.{PairRooms, pairsStored}
+use Rattle.written.specs.Laws.Rooms.{sets-stored}
 use Rattle.metric.specs.Edges.{edgeOf}
-use Rattle.leaf.specs.Lent.{joinOf}
 use Rattle.leaf.specs.Kept.{keeps, ofLeaves}
 use Rattle.rooms.specs.Rooms.{Filling, filling, put, puts}
 
@@ -37,35 +37,14 @@ puts-found s l = ap (λ (t : Filling). t .found) (puts-sets (s .found) (s .rooms
 
 -- ---- into rooms that were lent whole
 
-sets-nil : {X : Type 0} (n : ℕ) (l : List X) → sets [] n l ≡ []
-sets-nil n [] = refl
-sets-nil zero (x ∷ l) = sets-nil 1 l
-sets-nil (suc n) (x ∷ l) = sets-nil (suc (suc n)) l
-
-sets-cons : {X : Type 0} (y : X) (ys : List X) (n : ℕ) (l : List X) → sets (y ∷ ys) (suc n) l ≡ y ∷ sets ys n l
-sets-cons y ys n [] = refl
-sets-cons y ys n (x ∷ l) = sets-cons y (set ys n x) (suc n) l
-
-sets-stored : {X : Type 0} (l b : List X) → sets b 0 l ≡ stored l b
-unfolding stored
-sets-stored [] [] = refl
-sets-stored [] (y ∷ b) = refl
-sets-stored (x ∷ l) [] = sets-nil 1 l
-sets-stored (x ∷ l) (y ∷ b) = sets-cons x b 0 l ∙ ap (_∷_ x) (sets-stored l b)
-
 pub all-stored : (b : PairRooms) (l : List Found) → puts (filling 0 (b .lefts) (b .rights) (b .distances)) l .rooms ≡ pairsStored l b
 all-stored b l =
     ap (λ (t : Filling). t .rooms) (puts-sets 0 (b .lefts) (b .rights) (b .distances) l)
     ∙ rw (sets-stored (map (λ x. x .left) l) (b .lefts), sets-stored (map (λ x. x .right) l) (b .rights), sets-stored (map (λ x. x .distance) l) (b .distances)) refl
 
--- ---- what is kept depends on axes, items and coordinates alone
+-- ---- what is kept depends on axes, items and coordinates alone, so that the loops over two leaves find what the walk's leaf pair finds
 
 module _ (j : Trees) where
-  pub same-points : (edge : Edge) (radius : Float) → keep (joinOf (j .axes) (j .left .items) (j .left .coords) (j .right .items) (j .right .coords)) edge radius ≡ keep j edge radius
-  unfolding keep
-  same-points edge radius = refl
-
-  -- so that the loops over two leaves find what the walk's leaf pair finds
   pub leaf-kept : (radius : Float) (under : Bool) (s : NodePair) → ofLeaves (keeps (j .axes) radius under (j .left .items) (j .left .coords) (j .right .items) (j .right .coords)) (start (j .left) (s .left .first)) (start (j .left) (s .left .end)) (start (j .right) (s .right .first)) (start (j .right) (s .right .end)) ≡ leafPair j (edgeOf under) radius s
   unfolding leafPair
   leaf-kept radius under s = refl

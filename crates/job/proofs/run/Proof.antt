@@ -3,7 +3,7 @@ use mathlib.Core.List.{List}
 use Prim.Native.Nat.{ℕ}
 use native.Mathlib.Omega.{arith}
 use borrow.Author.Needs.{needs}
-use Rattle.reading.specs.Header.{axes, headerRefusal}
+use Rattle.reading.specs.Header.{headerRefusal}
 use Rattle.reading.specs.Lays.{Lays, LaidOut}
 use Rattle.reading.specs.Laws.{end-within}
 use Rattle.printing.specs.Text.{refusedLine}

@@ -4,7 +4,6 @@ use Prim.Native.Nat.{_+_, _-_, _*_, _<_}
 use native.Mathlib.Omega.{arith}
 use lib.ListN.{length}
 use Rattle.metric.proofs.Laws.{inside}
-use Rattle.leaf.specs.Sums.{passing}
 use Rattle.leaf.proofs.Growing.{tile-column}
 use Rattle.leaf.proofs.Keeping.{tile-passing}
 use Rattle.leafcounts.proofs.point_count.Statement.{statement}
