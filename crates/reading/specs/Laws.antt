@@ -16,7 +16,7 @@ second true b e = e
 second false b e = absurd (false≢true e)
 
 -- a tree that fits ends within the job
-ends : (K : ℕ) (s : List ℕ) (at : ℕ) → treeFits s at K ≡ true → treeEnd s at K ≤ length s
+pub ends : (K : ℕ) (s : List ℕ) (at : ℕ) → treeFits s at K ≡ true → treeEnd s at K ≤ length s
 ends K s at e = leb-true _ _ (second (leb (startsAt s at) (length s)) (leb (treeEnd s at K) (length s)) e)
 
 module _ {K : ℕ} {s : List ℕ} {at : ℕ} {l : Layout} where

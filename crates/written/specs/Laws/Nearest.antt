@@ -14,7 +14,7 @@ use Rattle.rounding.specs.Order.{known, le-refl, le-trans}
 use Rattle.rounding.specs.Distance.{zero₊}
 use Rattle.written.specs.Places.{In, inside}
 use Rattle.written.specs.LentTree.{places, isLeaf}
-use Rattle.written.specs.Boxes.{Trees, distance, lower, under, beyond}
+use Rattle.written.specs.Boxes.{Trees, lower, under, beyond}
 use Rattle.written.specs.Visits.{Fate, whole, is, Step, Seen, seen, Ends}
 use Rattle.written.specs.NodePairs.{Side, leftSide, rightSide, NodePair, treeOf, rootPair, stemLevels, noLeaf, picked, split, descend, visit, leftPart, rightPart, allPlaces}
 use Rattle.written.specs.Nearest.{Neighbour, unset, answerAt, improve, atEach, offer, update, farthest, nearRuledOut, nearStep, nearWalk}
