@@ -1,7 +1,7 @@
 //! Jobs that are answered: every mode and K, radii of every kind, empty trees,
 //! zeros and subnormals, item numbers at the ends of u32.
 
-use super::Told;
+use super::{Told, NANS};
 use crate::cases::KINDS;
 use crate::grow;
 use crate::points::Source;
@@ -40,14 +40,7 @@ pub fn all(jobs: &mut Vec<Told>, rng: &mut Rng) {
 
 /// Every NaN is a NaN; infinities, both zeros, the smallest and largest numbers.
 fn radii(jobs: &mut Vec<Told>) {
-    for (turn, bits) in [
-        0x7ff8_0000_0000_0000,
-        0xfff8_0000_0000_0000,
-        0x7ff0_0000_0000_0001,
-        0xfff0_0000_0000_0001,
-        0x7ff7_ffff_ffff_ffff,
-        0x7fff_ffff_ffff_ffff,
-        0xffff_ffff_ffff_ffff,
+    let others = [
         0x7ff0_0000_0000_0000,
         0xfff0_0000_0000_0000,
         0x7fef_ffff_ffff_ffff,
@@ -55,10 +48,8 @@ fn radii(jobs: &mut Vec<Told>) {
         0x8000_0000_0000_0000,
         0x0000_0000_0000_0001,
         0x8000_0000_0000_0001,
-    ]
-    .into_iter()
-    .enumerate()
-    {
+    ];
+    for (turn, bits) in NANS.into_iter().chain(others).enumerate() {
         // Each of two modes, up to and under.
         for mode in [2 * (turn % 2), 3 - 2 * (turn % 2)] {
             let asked = Ask {

@@ -20,6 +20,17 @@ use std::path::Path;
 /// How the text begins, by the scope paper; and the job.
 pub type Told = (&'static str, Vec<u8>);
 
+/// NaN of both signs and several payloads, quiet and signalling, the first and the last.
+pub const NANS: [u64; 7] = [
+    0x7ff8_0000_0000_0000,
+    0xfff8_0000_0000_0000,
+    0x7ff0_0000_0000_0001,
+    0xfff0_0000_0000_0001,
+    0x7ff7_ffff_ffff_ffff,
+    0x7fff_ffff_ffff_ffff,
+    0xffff_ffff_ffff_ffff,
+];
+
 /// The program's limit on its input.
 const LIMIT: usize = 131_072;
 

@@ -1,7 +1,7 @@
 //! Jobs refused for a tree: 4 to 7, on either side; trees that only seem damaged;
 //! and such as have more than one thing wrong.
 
-use super::Told;
+use super::{Told, NANS};
 use crate::file::Case;
 use crate::grow;
 use crate::points::{Kind, Source};
@@ -50,23 +50,14 @@ fn side_of(case: &mut Case, side: usize) -> &mut Lot {
 
 /// NaN of any sign and payload; the first and last that are none, infinities.
 fn patterns(jobs: &mut Vec<Told>) {
-    let nan = [
-        0x7ff8_0000_0000_0000,
-        0xfff8_0000_0000_0000,
-        0x7ff0_0000_0000_0001,
-        0xfff0_0000_0000_0001,
-        0x7ff7_ffff_ffff_ffff,
-        0x7fff_ffff_ffff_ffff,
-        0xffff_ffff_ffff_ffff,
-    ];
     let infinite = [0x7ff0_0000_0000_0000, 0xfff0_0000_0000_0000];
     let a1 = |at, bits: u64| changed(example("a1").bytes(), at, &bits.to_le_bytes());
-    for (turn, bits) in nan.into_iter().chain(infinite).enumerate() {
+    for (turn, bits) in NANS.into_iter().chain(infinite).enumerate() {
         // Coordinates left and right, the first and the second axis.
         let at = [68 + 24, 156 + 8, 68 + 32, 156 + 24][turn % 4];
         jobs.push((["refused 5 0\n", "refused 5 1\n"][turn % 2], a1(at, bits)));
     }
-    for bits in nan {
+    for bits in NANS {
         jobs.push(("refused 6 0\n", a1(44, bits)));
     }
     // The largest finite ones are coordinates, but to the wrong side here or there.
@@ -75,7 +66,7 @@ fn patterns(jobs: &mut Vec<Told>) {
         jobs.push(("refused 7 0\n", a1(44, bits)));
     }
     // The unused stem.
-    for bits in [nan[2], nan[6], infinite[0], infinite[1]] {
+    for bits in [NANS[2], NANS[6], infinite[0], infinite[1]] {
         jobs.push(("pairs 3\n", a1(36, bits)));
     }
 }
