@@ -4,3 +4,4 @@ pub mod Unique
 pub mod Table
 pub mod Demands
 pub mod NearestDemands
+pub mod Sides
