@@ -4,11 +4,11 @@ use Rattle.written.specs.Totals.{Totals}
 use Rattle.written.specs.Answers.{Answer, PairRooms, NearRooms}
 use Rattle.answer.specs.declared.Totals.{Totals as Counted}
 use Rattle.answer.specs.declared.Answer.{Answer as Held}
-use Rattle.answer.specs.Rooms.{rooms_of, nearRoomsOf}
+use Rattle.answer.specs.Rooms.{rooms_of, near_rooms_of}
 
 -- the paper's totals
 abbrev pub totalsIn : Counted → Totals
-totalsIn t = record { visits = t.visits; measured = t.measured; ruledOut = t.ruled; whole = t.whole }
+totalsIn t = record { visits = t.visits; measured = t.measured; ruled_out = t.ruled; whole = t.whole }
 
 -- the paper's number, side, found number and totals
 abbrev pub answer_of : Held → Answer
@@ -18,8 +18,8 @@ pub record Result (Rooms : Type 0) : Type 0 where
   pub answer : Held
   pub rooms : Rooms
 
-abbrev pub withRooms : Held → (lefts rights : List ℕ) → (distances : List Float) → Result PairRooms
-withRooms a lefts rights distances = record { answer = a; rooms = rooms_of lefts rights distances }
+abbrev pub with_rooms : Held → (lefts rights : List ℕ) → (distances : List Float) → Result PairRooms
+with_rooms a lefts rights distances = record { answer = a; rooms = rooms_of lefts rights distances }
 
-abbrev pub withNearRooms : Held → (items : List ℕ) → (distances : List Float) → Result NearRooms
-withNearRooms a items distances = record { answer = a; rooms = nearRoomsOf items distances }
+abbrev pub with_near_rooms : Held → (items : List ℕ) → (distances : List Float) → Result NearRooms
+with_near_rooms a items distances = record { answer = a; rooms = near_rooms_of items distances }

@@ -1,10 +1,10 @@
 // Whether the arguments of a call are a leaf pair, or a place, of trees that the library serves.
 ghost use Rattle.std.specs.Prelude.{◌≡◌, ◌≤◌};
-ghost use Rattle.beside.specs.Calls.{placeOk, sideOk, pairOk, alikeOk};
+ghost use Rattle.beside.specs.Calls.{place_ok, side_ok, pair_ok, alike_ok};
 
 // A place p of n points over k axes.
 pub fn place_ok(k: u32, coords: &[f64], n: usize, p: usize) -> bool
-    ensures { result ≡ placeOk k coords.now n p }
+    ensures { result ≡ place_ok k coords.now n p }
 {
     if 4 < k {
         return false;
@@ -21,7 +21,7 @@ pub fn place_ok(k: u32, coords: &[f64], n: usize, p: usize) -> bool
 // The places from `from` up to `to` of one tree.
 fn side_ok(k: u32, items: &[u32], coords: &[f64], from: usize, to: usize) -> bool
     requires { k ≤ 4 }
-    ensures { result ≡ sideOk k items.now coords.now from to }
+    ensures { result ≡ side_ok k items.now coords.now from to }
 {
     if 65536 < items.len() {
         return false;
@@ -46,7 +46,7 @@ pub fn pair_ok(
     rs: usize,
     rend: usize,
 ) -> bool
-    ensures { result ≡ pairOk k litems.now lcoords.now ls lend ritems.now rcoords.now rs rend }
+    ensures { result ≡ pair_ok k litems.now lcoords.now ls lend ritems.now rcoords.now rs rend }
 {
     if k < 1 {
         return false;
@@ -62,7 +62,7 @@ pub fn pair_ok(
 
 // Three lengths are one.
 pub fn alike(a: usize, b: usize, c: usize) -> bool
-    ensures { result ≡ alikeOk a b c }
+    ensures { result ≡ alike_ok a b c }
 {
     if a != b {
         return false;

@@ -5,14 +5,14 @@ ghost use Rattle.rounding.specs.Distance.{distance as distanceOfRows};
 ghost use Rattle.written.specs.Boxes.{lower as lowerBound, upper as upperBound, passes, beyond as beyondRadius};
 ghost use Rattle.written.specs.Check.{refusal as refusalOf};
 ghost use Rattle.metric.specs.Edges.{edge_of};
-ghost use Rattle.metric.specs.Flat.{boxesOf};
-ghost use Rattle.metric.specs.Lent.{pointAt};
+ghost use Rattle.metric.specs.Flat.{boxes_of};
+ghost use Rattle.metric.specs.Lent.{point_at};
 ghost use Rattle.tree.specs.Lent.{tree_of};
 ghost use Rattle.leaf.specs.Lent.{join_of};
-ghost use Rattle.leaf.specs.Kept.{keeps, ofLeaves};
+ghost use Rattle.leaf.specs.Kept.{keeps, of_leaves};
 ghost use Rattle.rooms.specs.Rooms.{filling, puts};
 ghost use Rattle.leafnearest.specs.Answers.{answers, improved};
-ghost use Rattle.beside.specs.Calls.{placeOk, pairOk, alikeOk, updated, improvedTo};
+ghost use Rattle.beside.specs.Calls.{place_ok, pair_ok, alike_ok, updated, improved_to};
 
 mod asked;
 
@@ -35,7 +35,7 @@ pub extern "C" fn oul_beyond(bound: f64, radius: f64, under: bool) -> bool
 // NaN where there are more than four axes.
 #[unsafe(no_mangle)]
 pub extern "C" fn oul_lower<'a>(min: &'a [f64; 8], max: &'a [f64; 8], k: u32) -> f64
-    ensures { result ≡ cond (leb k 4) (lowerBound k (boxesOf min.now max.now)) nan }
+    ensures { result ≡ cond (leb k 4) (lowerBound k (boxes_of min.now max.now)) nan }
 {
     if 4 < k {
         return 0.0 / 0.0;
@@ -45,7 +45,7 @@ pub extern "C" fn oul_lower<'a>(min: &'a [f64; 8], max: &'a [f64; 8], k: u32) ->
 
 #[unsafe(no_mangle)]
 pub extern "C" fn oul_upper<'a>(min: &'a [f64; 8], max: &'a [f64; 8], k: u32) -> f64
-    ensures { result ≡ cond (leb k 4) (upperBound k (boxesOf min.now max.now)) nan }
+    ensures { result ≡ cond (leb k 4) (upperBound k (boxes_of min.now max.now)) nan }
 {
     if 4 < k {
         return 0.0 / 0.0;
@@ -64,7 +64,7 @@ pub extern "C" fn oul_distance(
     rn: usize,
     q: usize,
 ) -> f64
-    ensures { result ≡ cond (placeOk k lcoords.now ln p && placeOk k rcoords.now rn q) (distanceOfRows binary64 (pointAt lcoords.now ln p) (pointAt rcoords.now rn q) k) nan }
+    ensures { result ≡ cond (place_ok k lcoords.now ln p && place_ok k rcoords.now rn q) (distanceOfRows binary64 (point_at lcoords.now ln p) (point_at rcoords.now rn q) k) nan }
 {
     if !place_ok(k, lcoords, ln, p) {
         return 0.0 / 0.0;
@@ -104,7 +104,7 @@ pub extern "C" fn oul_leaf_counts(
     rs: usize,
     rend: usize,
 ) -> u64
-    ensures { result ≡ cond (pairOk k litems.now lcoords.now ls lend ritems.now rcoords.now rs rend) (length (ofLeaves (keeps k radius under litems.now lcoords.now ritems.now rcoords.now) ls lend rs rend)) (2 ^ 64 - 1) }
+    ensures { result ≡ cond (pair_ok k litems.now lcoords.now ls lend ritems.now rcoords.now rs rend) (length (of_leaves (keeps k radius under litems.now lcoords.now ritems.now rcoords.now) ls lend rs rend)) (2 ^ 64 - 1) }
 {
     if !pair_ok(k, litems, lcoords, ls, lend, ritems, rcoords, rs, rend) {
         return 0xffff_ffff_ffff_ffff;
@@ -132,7 +132,7 @@ pub extern "C" fn oul_leaf_pairs(
     rout: &mut [u32],
     dout: &mut [f64],
 ) -> u64
-    ensures { filling result lout.new rout.new dout.new ≡ cond (pairOk k litems.now lcoords.now ls lend ritems.now rcoords.now rs rend && alikeOk (length lout.old) (length rout.old) (length dout.old)) (puts (filling 0 lout.old rout.old dout.old) (ofLeaves (keeps k radius under litems.now lcoords.now ritems.now rcoords.now) ls lend rs rend)) (filling (2 ^ 64 - 1) lout.old rout.old dout.old) }
+    ensures { filling result lout.new rout.new dout.new ≡ cond (pair_ok k litems.now lcoords.now ls lend ritems.now rcoords.now rs rend && alike_ok (length lout.old) (length rout.old) (length dout.old)) (puts (filling 0 lout.old rout.old dout.old) (of_leaves (keeps k radius under litems.now lcoords.now ritems.now rcoords.now) ls lend rs rend)) (filling (2 ^ 64 - 1) lout.old rout.old dout.old) }
 {
     if !pair_ok(k, litems, lcoords, ls, lend, ritems, rcoords, rs, rend) {
         return 0xffff_ffff_ffff_ffff;
@@ -161,7 +161,7 @@ pub extern "C" fn oul_update_leaf(
     items: &mut [u32],
     dists: &mut [f64],
 ) -> u32
-    ensures { updated result items.new dists.new ≡ cond (pairOk k litems.now lcoords.now ls lend ritems.now rcoords.now rs rend && alikeOk (lend - ls) (length items.old) (length dists.old)) (improvedTo 1 (improved (join_of k litems.now lcoords.now ritems.now rcoords.now) ls rs rend (answers items.old dists.old))) (updated 0 items.old dists.old) }
+    ensures { updated result items.new dists.new ≡ cond (pair_ok k litems.now lcoords.now ls lend ritems.now rcoords.now rs rend && alike_ok (lend - ls) (length items.old) (length dists.old)) (improved_to 1 (improved (join_of k litems.now lcoords.now ritems.now rcoords.now) ls rs rend (answers items.old dists.old))) (updated 0 items.old dists.old) }
 {
     if !pair_ok(k, litems, lcoords, ls, lend, ritems, rcoords, rs, rend) {
         return 0;

@@ -11,33 +11,33 @@ use lib.ListN.{length, take, drop, length-drop}
 use lib.Pow.{pow_mono, shl_exact}
 use lib.Seq.{take_all}
 use Rattle.written.specs.LentTree.{levels}
-use Rattle.written.specs.NodePairs.{leftSide, rightSide}
-use Rattle.written.specs.Laws.LentTree.{levels-enough, levels-least}
+use Rattle.written.specs.NodePairs.{left_side, right_side}
+use Rattle.written.specs.Laws.LentTree.{levels_enough, levels_least}
 use Rattle.cursor.specs.Held.{side_of}
 
 -- an exponent whose power is still below m is below the levels over m
-pub below-levels : (m r : ℕ) → 2 ^ r < m → r < levels m
-below-levels m r h = go (dec_lt r (levels m))
+pub below_levels : (m r : ℕ) → 2 ^ r < m → r < levels m
+below_levels m r h = go (dec_lt r (levels m))
   where
     go : Dec (r < levels m) → r < levels m
     go (yes l) = l
-    go (no l) = absurd (omega (arith, levels-enough m, pow_mono {i = levels m} {j = r} (omega arith)))
+    go (no l) = absurd (omega (arith, levels_enough m, pow_mono {i = levels m} {j = r} (omega arith)))
 
-pub levels-few : (m : ℕ) → m ≤ 4096 → levels m ≤ 12
-levels-few m h = levels-least m 12 h
+pub levels_few : (m : ℕ) → m ≤ 4096 → levels m ≤ 12
+levels_few m h = levels_least m 12 h
 
 -- what `1 << (r - 1)` computes, at most 12 levels up
 pub half_is : (r : ℕ) → 0 < r → r ≤ 12 → (1 * 2 ^ (r - 1)) % 4294967296 ≡ 2 ^ (r - 1)
 half_is r p h = shl_exact {a = 1} 1 (r - 1) 32 (lit< tt) (omega arith) ∙ one-mul _
 
-pub half-small : (r : ℕ) → r ≤ 12 → 2 ^ (r - 1) ≤ 2048
-half-small r h = pow_mono {i = r - 1} {j = 11} (omega arith)
+pub half_small : (r : ℕ) → r ≤ 12 → 2 ^ (r - 1) ≤ 2048
+half_small r h = pow_mono {i = r - 1} {j = 11} (omega arith)
 
-pub side_left : (s : ℕ) → s ≡ 0 → side_of s ≡ leftSide
+pub side_left : (s : ℕ) → s ≡ 0 → side_of s ≡ left_side
 side_left zero e = refl
 side_left (suc s) e = absurd (omega arith)
 
-pub side_right : (s : ℕ) → (s ≡ 0 → ⊥) → side_of s ≡ rightSide
+pub side_right : (s : ℕ) → (s ≡ 0 → ⊥) → side_of s ≡ right_side
 side_right zero e = absurd (e refl)
 side_right (suc s) e = refl
 

@@ -1,8 +1,8 @@
 // Nodes and tiles of a lent tree (kiddo: cursor.rs, stem_strategy/eytzinger).
 ghost use Rattle.std.specs.Prelude.{◌≡◌, ◌+◌, ◌-◌, ◌*◌, ◌≤◌, ◌<◌, min, length, take, drop, get_or};
-ghost use Rattle.written.specs.LentTree.{levels as levelsOver, isLeaf, span as span_of, axis as axisOf, near as nearOf, far as farOf};
-ghost use Rattle.written.specs.NodePairs.{onSide};
-ghost use Rattle.cursor.specs.Held.{node_of, rootOver, Splits, side_of, Column};
+ghost use Rattle.written.specs.LentTree.{levels as levelsOver, is_leaf, span as span_of, axis as axisOf, near as nearOf, far as farOf};
+ghost use Rattle.written.specs.NodePairs.{on_side};
+ghost use Rattle.cursor.specs.Held.{node_of, root_over, Splits, side_of, Column};
 
 // A stem place and a leaf place count separate things.
 #[derive(Drop)]
@@ -51,7 +51,7 @@ impl Cursor {
     // Node 1, over all m leaves.
     pub fn root(m: u32) -> Self
         requires { m ≤ 4096 }
-        ensures { node_of result ≡ rootOver m }
+        ensures { node_of result ≡ root_over m }
     {
         let remaining = levels(m);
         Self {
@@ -65,7 +65,7 @@ impl Cursor {
 
     // No levels are left, however many leaves it spans.
     pub fn is_leaf(self) -> bool
-        ensures { result ≡ isLeaf (node_of self) }
+        ensures { result ≡ is_leaf (node_of self) }
     {
         self.remaining == 0
     }
@@ -118,8 +118,8 @@ impl Cursor {
 
 // The stems of the chosen side (0 left, 1 right) from the node's stem on: its pivot stands first.
 pub fn stems_from<'a>(left: &'a [f64], right: &'a [f64], side: usize, at: StemIdx) -> &'a [f64]
-    requires { at.0 < length (onSide (side_of side) left.now right.now) }
-    ensures result_value { result.now ≡ drop at.0 (onSide (side_of side) left.now right.now) }
+    requires { at.0 < length (on_side (side_of side) left.now right.now) }
+    ensures result_value { result.now ≡ drop at.0 (on_side (side_of side) left.now right.now) }
     ensures result_nonzero { 0 < length result.now }
 {
     let i = at.0 as usize;

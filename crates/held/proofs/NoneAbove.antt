@@ -12,72 +12,72 @@ use lib.Ieee.{Float, nan, inf, fin, lt, le, is_nan}
 use Rattle.rounding.specs.Distance.{zero₊}
 use Rattle.rounding.specs.Order.{known, nan_right, lt→le, le_trans, le_lt_trans, asym, split}
 use Rattle.written.specs.Boxes.{under, beyond}
-use Rattle.written.specs.Laws.Tests.{gave, T_true, denies, not-both}
-use Rattle.held.specs.Largest.{largestFrom, largestOf}
+use Rattle.written.specs.Laws.Tests.{gave, T_true, denies, not_both}
+use Rattle.held.specs.Largest.{largest_from, largest_of}
 
 -- no distance is above the bound
-abbrev pub noneAbove : Float → List Float → Bool
-noneAbove bound [] = true
-noneAbove bound (d ∷ ds) = not (lt bound d) && noneAbove bound ds
+abbrev pub none_above : Float → List Float → Bool
+none_above bound [] = true
+none_above bound (d ∷ ds) = not (lt bound d) && none_above bound ds
 
 -- ---- the larger of m and d is d, or still m
 
-above-known : (m d : Float) → lt m d ≡ true → T (known d)
+above_known : (m d : Float) → lt m d ≡ true → T (known d)
 unfolding is_nan
-above-known m nan e = absurd (not-both e (nan_right m).0)
-above-known m (inf s) e = tt
-above-known m (fin s n k) e = tt
+above_known m nan e = absurd (not_both e (nan_right m).0)
+above_known m (inf s) e = tt
+above_known m (fin s n k) e = tt
 
-new-among-numbers : (m d x : Float) → lt m d ≡ true → T (known x) → le d x ≡ (le m x && not (lt x d))
-new-among-numbers m d x e k = elim (split x d k (above-known m d e)) [
+new_among_numbers : (m d x : Float) → lt m d ≡ true → T (known x) → le d x ≡ (le m x && not (lt x d))
+new_among_numbers m d x e k = elim (split x d k (above_known m d e)) [
   | inl h ↦ rw (denies (le d x) (asym x d h), T_true (lt x d) h) (sym (and-false (le m x)))
   | inr h ↦ rw (T_true (le d x) h, T_true (le m x) (le_trans m d x (lt→le m d (gave e)) h), denies (lt x d) (λ (g : T (lt x d)). asym x d g h))
 ]
 
-new-largest : (m d x : Float) → lt m d ≡ true → le d x ≡ (le m x && not (lt x d))
+new_largest : (m d x : Float) → lt m d ≡ true → le d x ≡ (le m x && not (lt x d))
 unfolding is_nan
-new-largest m d nan e = rw ((nan_right d).2, (nan_right m).2)
-new-largest m d (inf s) e = new-among-numbers m d (inf s) e tt
-new-largest m d (fin s n k) e = new-among-numbers m d (fin s n k) e tt
+new_largest m d nan e = rw ((nan_right d).2, (nan_right m).2)
+new_largest m d (inf s) e = new_among_numbers m d (inf s) e tt
+new_largest m d (fin s n k) e = new_among_numbers m d (fin s n k) e tt
 
-old-largest : (m d x : Float) → lt m d ≡ false → le m x ≡ (le m x && not (lt x d))
-old-largest m d x e = go (le m x) refl
+old_largest : (m d x : Float) → lt m d ≡ false → le m x ≡ (le m x && not (lt x d))
+old_largest m d x e = go (le m x) refl
   where
     go : (t : Bool) → le m x ≡ t → t ≡ (t && not (lt x d))
     go false h = refl
-    go true h = rw (denies (lt x d) (λ (g : T (lt x d)). not-both (T_true (lt m d) (le_lt_trans m x d (gave h) g)) e))
+    go true h = rw (denies (lt x d) (λ (g : T (lt x d)). not_both (T_true (lt m d) (le_lt_trans m x d (gave h) g)) e))
 
-larger-is : (m d x : Float) → le (cond (lt m d) d m) x ≡ (le m x && not (lt x d))
-larger-is m d x = go (lt m d) refl
+larger_is : (m d x : Float) → le (cond (lt m d) d m) x ≡ (le m x && not (lt x d))
+larger_is m d x = go (lt m d) refl
   where
     go : (t : Bool) → lt m d ≡ t → le (cond t d m) x ≡ (le m x && not (lt x d))
-    go true e = new-largest m d x e
-    go false e = old-largest m d x e
+    go true e = new_largest m d x e
+    go false e = old_largest m d x e
 
 -- ---- the largest of all
 
-from_is : (m bound : Float) (ds : List Float) → le (largestFrom m ds) bound ≡ (le m bound && noneAbove bound ds)
+from_is : (m bound : Float) (ds : List Float) → le (largest_from m ds) bound ≡ (le m bound && none_above bound ds)
 from_is m bound [] = sym (and-true (le m bound))
 from_is m bound (d ∷ ds) =
     from_is (cond (lt m d) d m) bound ds
-    ∙ ap (λ (t : Bool). t && noneAbove bound ds) (larger-is m d bound)
-    ∙ and_assoc (le m bound) (not (lt bound d)) (noneAbove bound ds)
+    ∙ ap (λ (t : Bool). t && none_above bound ds) (larger_is m d bound)
+    ∙ and_assoc (le m bound) (not (lt bound d)) (none_above bound ds)
 
-pub below-is : (bound : Float) (ds : List Float) → noneAbove bound ds ≡ false → beyond under (largestOf ds) bound ≡ false
+pub below_is : (bound : Float) (ds : List Float) → none_above bound ds ≡ false → beyond under (largest_of ds) bound ≡ false
 unfolding beyond
-below-is bound ds e = from_is zero₊ bound ds ∙ (rw e (and-false (le zero₊ bound)))
+below_is bound ds e = from_is zero₊ bound ds ∙ (rw e (and-false (le zero₊ bound)))
 
-pub not-below-is : (bound : Float) (ds : List Float) → noneAbove bound ds ≡ true → beyond under (largestOf ds) bound ≡ le zero₊ bound
+pub not_below_is : (bound : Float) (ds : List Float) → none_above bound ds ≡ true → beyond under (largest_of ds) bound ≡ le zero₊ bound
 unfolding beyond
-not-below-is bound ds e = from_is zero₊ bound ds ∙ (rw e (and-true (le zero₊ bound)))
+not_below_is bound ds e = from_is zero₊ bound ds ∙ (rw e (and-true (le zero₊ bound)))
 
 -- ---- one after the other, from the place i on
 
-pub one-above : (bound : Float) (ds : List Float) (i : ℕ) → i < length ds → lt bound (get_or ds i nan) ≡ true → noneAbove bound (drop i ds) ≡ false
-one-above bound ds i l h = rw (drop-cons ds i nan l, h)
+pub one_above : (bound : Float) (ds : List Float) (i : ℕ) → i < length ds → lt bound (get_or ds i nan) ≡ true → none_above bound (drop i ds) ≡ false
+one_above bound ds i l h = rw (drop-cons ds i nan l, h)
 
-pub next-not-above : (bound : Float) (ds : List Float) (i : ℕ) → i < length ds → lt bound (get_or ds i nan) ≡ false → noneAbove bound (drop (i + 1) ds) ≡ noneAbove bound (drop i ds)
-next-not-above bound ds i l h = rw (add-one i, drop-cons ds i nan l, h)
+pub next_not_above : (bound : Float) (ds : List Float) (i : ℕ) → i < length ds → lt bound (get_or ds i nan) ≡ false → none_above bound (drop (i + 1) ds) ≡ none_above bound (drop i ds)
+next_not_above bound ds i l h = rw (add-one i, drop-cons ds i nan l, h)
 
-pub none_left : (bound : Float) (ds : List Float) (i : ℕ) → length ds ≤ i → noneAbove bound (drop i ds) ≡ true
+pub none_left : (bound : Float) (ds : List Float) (i : ℕ) → length ds ≤ i → none_above bound (drop i ds) ≡ true
 none_left bound ds i l = rw (drop_of_length-le ds l)

@@ -11,37 +11,37 @@ use lib.Ieee.{Float, le, lt}
 use Rattle.rounding.specs.Order.{le_lt_trans}
 use Rattle.written.specs.Places.{In, inside}
 use Rattle.written.specs.Boxes.{Trees, point, distance}
-use Rattle.written.specs.NodePairs.{NodePair, leftPart, rightPart}
-use Rattle.written.specs.Nearest.{Neighbour, answerAt, improve, offer, update}
-use Rattle.written.specs.Laws.Tests.{denies, T_true, not-both}
-use Rattle.written.specs.Laws.Places.{true-inside}
-use Rattle.leafnearest.specs.Each.{each-is}
+use Rattle.written.specs.NodePairs.{NodePair, left_part, right_part}
+use Rattle.written.specs.Nearest.{Neighbour, answer_at, improve, offer, update}
+use Rattle.written.specs.Laws.Tests.{denies, T_true, not_both}
+use Rattle.written.specs.Laws.Places.{true_inside}
+use Rattle.leafnearest.specs.Each.{each_is}
 use Rattle.held.specs.Apart.{apart, BoxNoFarther}
 
 -- where x is not below y, no number from x up is; NaN is below nothing
-not-below : (x z y : Float) → T (le x z) → lt x y ≡ false → lt z y ≡ false
-not-below x z y h e = denies (lt z y) (λ (k : T (lt z y)). not-both (T_true (lt x y) (le_lt_trans x z y h k)) e)
+not_below : (x z y : Float) → T (le x z) → lt x y ≡ false → lt z y ≡ false
+not_below x z y h e = denies (lt z y) (λ (k : T (lt z y)). not_both (T_true (lt x y) (le_lt_trans x z y h k)) e)
 
 -- no offer is nearer, so none is taken
-none-taken : (g : ℕ → Neighbour) (a n : ℕ) (old : Neighbour) → ((q : ℕ) → a ≤ q → q < a + n → lt (g q).distance old.distance ≡ false) → improve g a n old ≡ old
+none_taken : (g : ℕ → Neighbour) (a n : ℕ) (old : Neighbour) → ((q : ℕ) → a ≤ q → q < a + n → lt (g q).distance old.distance ≡ false) → improve g a n old ≡ old
 unfolding improve
-none-taken g a zero old h = refl
-none-taken g a (suc n) old h = rw (h a (omega arith) (omega arith)) (none-taken g (suc a) n old (λ q k l. h q (omega arith) (omega arith)))
+none_taken g a zero old h = refl
+none_taken g a (suc n) old h = rw (h a (omega arith) (omega arith)) (none_taken g (suc a) n old (λ q k l. h q (omega arith) (omega arith)))
 
 module _ (j : Trees) where
   offered : (p q : ℕ) → (offer j p q).distance ≡ distance j p q
   unfolding offer
   offered p q = refl
 
-  pub update-none : (c : List Neighbour) (s : NodePair) → BoxNoFarther j s
-      → ((p : ℕ) → In p (leftPart j s) → p < length c → lt (apart j.axes s.boxes (point j.left p)) (answerAt c p).distance ≡ false) → update j c s ≡ c
+  pub update_none : (c : List Neighbour) (s : NodePair) → BoxNoFarther j s
+      → ((p : ℕ) → In p (left_part j s) → p < length c → lt (apart j.axes s.boxes (point j.left p)) (answer_at c p).distance ≡ false) → update j c s ≡ c
   unfolding update
-  update-none c s far kept = each-is _ 0 c c refl (λ p l. rw (zero-add p) (same p l (inside p (leftPart j s)) refl))
+  update_none c s far kept = each_is _ 0 c c refl (λ p l. rw (zero-add p) (same p l (inside p (left_part j s)) refl))
     where
-      same : (p : ℕ) → p < length c → (b : Bool) → inside p (leftPart j s) ≡ b
-          → cond b (improve (offer j p) (rightPart j s).from (rightPart j s).size (answerAt c p)) (answerAt c p) ≡ answerAt c p
+      same : (p : ℕ) → p < length c → (b : Bool) → inside p (left_part j s) ≡ b
+          → cond b (improve (offer j p) (right_part j s).from (right_part j s).size (answer_at c p)) (answer_at c p) ≡ answer_at c p
       same p l false e = refl
       same p l true e =
-          let i : In p (leftPart j s) = true-inside p (leftPart j s) e in
-          none-taken (offer j p) (rightPart j s).from (rightPart j s).size (answerAt c p)
-          (λ q k m. rw (offered p q) (not-below (apart j.axes s.boxes (point j.left p)) (distance j p q) (answerAt c p).distance (far p q i (record { above = k; below = m })) (kept p i l)))
+          let i : In p (left_part j s) = true_inside p (left_part j s) e in
+          none_taken (offer j p) (right_part j s).from (right_part j s).size (answer_at c p)
+          (λ q k m. rw (offered p q) (not_below (apart j.axes s.boxes (point j.left p)) (distance j p q) (answer_at c p).distance (far p q i (record { above = k; below = m })) (kept p i l)))

@@ -5,12 +5,12 @@ use Rattle.rounding.specs.Distance.{zero₊}
 use Rattle.written.specs.Places.{Part}
 
 -- m where none is larger
-abbrev pub largestFrom : Float → List Float → Float
-largestFrom m [] = m
-largestFrom m (x ∷ xs) = largestFrom (cond (lt m x) x m) xs
+abbrev pub largest_from : Float → List Float → Float
+largest_from m [] = m
+largest_from m (x ∷ xs) = largest_from (cond (lt m x) x m) xs
 
-abbrev pub largestOf : List Float → Float
-largestOf = largestFrom zero₊
+abbrev pub largest_of : List Float → Float
+largest_of = largest_from zero₊
 
 -- the distances held at the places of a part
 abbrev pub held_at : List Float → Part → List Float

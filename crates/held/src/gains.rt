@@ -1,8 +1,8 @@
 // Whether a left leaf can gain from a right one. About half of the leaf pairs measured change no answer, and it costs little to see: no point of a box is nearer than the box.
 ghost use Rattle.std.specs.Prelude.{◌≡◌, ◌≤◌, length};
-ghost use Rattle.metric.specs.Flat.{boxesOf};
-ghost use Rattle.metric.specs.Lent.{HoldsPlace, pointAt};
-ghost use Rattle.held.specs.Apart.{apart, Places, gainsAt, one_of};
+ghost use Rattle.metric.specs.Flat.{boxes_of};
+ghost use Rattle.metric.specs.Lent.{HoldsPlace, point_at};
+ghost use Rattle.held.specs.Apart.{apart, Places, gains_at, one_of};
 
 // The squared distance of the left place p to the right box.
 fn apart<'a>(
@@ -14,7 +14,7 @@ fn apart<'a>(
     max: &'a [f64; 8],
 ) -> f64
     requires { (k ≤ 4) × HoldsPlace k lcoords.now ln p }
-    ensures { result ≡ apart k (boxesOf min.now max.now) (pointAt lcoords.now ln p) }
+    ensures { result ≡ apart k (boxes_of min.now max.now) (point_at lcoords.now ln p) }
 {
     let mut sum = 0.0;
     let mut d = 0;
@@ -40,7 +40,7 @@ pub fn gains<'a>(
     dists: &[f64],
 ) -> bool
     requires { Places k lcoords.now ln ls (length dists.now) }
-    ensures { result ≡ one_of (gainsAt k lcoords.now ln ls (boxesOf min.now max.now) dists.now) (length dists.now) }
+    ensures { result ≡ one_of (gains_at k lcoords.now ln ls (boxes_of min.now max.now) dists.now) (length dists.now) }
 {
     let mut i = 0;
     while i < dists.len() {

@@ -8,12 +8,12 @@ use Rattle.reading.specs.Laws.{within}
 use Rattle.reading.specs.declared.layout.Layout.{Layout}
 
 pub record Small (l : Layout) : Type 0 where
-  pub starts-few : l.nstarts ≤ 4096
-  pub stems-few : l.nstems ≤ 2048
-  pub items-few : l.nitems ≤ 4096
-  pub coords-few : l.ncoords ≤ 2048
+  pub starts_few : l.nstarts ≤ 4096
+  pub stems_few : l.nstems ≤ 2048
+  pub items_few : l.nitems ≤ 4096
+  pub coords_few : l.ncoords ≤ 2048
 
 pub small : {K : ℕ} {s : List ℕ} {at : ℕ} {l : Layout} → length s ≤ 16384 → Lays K s at l → Small l
 small {K} {s} {at} {l} h lays =
     let w : Within (length s) l = within lays in
-    record { starts-few = omega (arith, w); stems-few = omega (arith, w); items-few = omega (arith, w); coords-few = omega (arith, w) }
+    record { starts_few = omega (arith, w); stems_few = omega (arith, w); items_few = omega (arith, w); coords_few = omega (arith, w) }

@@ -7,25 +7,25 @@ use Rattle.written.specs.LentTree.{Tree}
 use Rattle.written.specs.RadiusWalk.{Found}
 use Rattle.written.specs.Answers.{Answer}
 use Rattle.printing.specs.Puts.{Puts}
-use Rattle.printing.specs.Text.{firstLine, refusedLine, lines, totalsLine}
-use Rattle.job.specs.Printed.{textBy, joinText}
-use Rattle.job.specs.Shown.{linesBy}
+use Rattle.printing.specs.Text.{first_line, refused_line, lines, totals_line}
+use Rattle.job.specs.Printed.{text_by, join_text}
+use Rattle.job.specs.Shown.{lines_by}
 
-pub no_lines : (n found : ℕ) → (n ≡ 0 → ⊥) → 0 ≡ linesBy n found
+pub no_lines : (n found : ℕ) → (n ≡ 0 → ⊥) → 0 ≡ lines_by n found
 no_lines zero found k = absurd (k refl)
 no_lines (suc n) found k = refl
 
-pub text-refused : (n : ℕ) (kind : List ℕ) (a : Answer) (l : List Found) → (n ≡ 0 → ⊥) → refusedLine n a.side ≡ textBy n kind a l
-text-refused zero kind a l k = absurd (k refl)
-text-refused (suc n) kind a l k = refl
+pub text_refused : (n : ℕ) (kind : List ℕ) (a : Answer) (l : List Found) → (n ≡ 0 → ⊥) → refused_line n a.side ≡ text_by n kind a l
+text_refused zero kind a l k = absurd (k refl)
+text_refused (suc n) kind a l k = refl
 
-pub text-answered : (n : ℕ) (kind : List ℕ) (a : Answer) (l : List Found) → n ≡ 0 → firstLine kind a.found ++ lines l ++ totalsLine a.totals ≡ textBy n kind a l
-text-answered n kind a l e = rw e refl
+pub text_answered : (n : ℕ) (kind : List ℕ) (a : Answer) (l : List Found) → n ≡ 0 → first_line kind a.found ++ lines l ++ totals_line a.totals ≡ text_by n kind a l
+text_answered n kind a l e = rw e refl
 
-pub puts-as : {b c t u : List ℕ} {at n : ℕ} → t ≡ u → Puts b at t c n → Puts b at u c n
-puts-as {b} {c} {t} {u} {at} {n} e p = subst (λ (x : List ℕ). Puts b at x c n) e p
+pub puts_as : {b c t u : List ℕ} {at n : ℕ} → t ≡ u → Puts b at t c n → Puts b at u c n
+puts_as {b} {c} {t} {u} {at} {n} e p = subst (λ (x : List ℕ). Puts b at x c n) e p
 
 -- the same trees, asked for the same
-pub joins-alike : {k k' m m' : ℕ} {a a' b b' : Tree} {r r' : Float} → k ≡ k' → a ≡ a' → b ≡ b' → m ≡ m' → r ≡ r'
-    → joinText (record { axes = k; left = a; right = b }) m r ≡ joinText (record { axes = k'; left = a'; right = b' }) m' r'
-joins-alike e f g h i = rw (e, f, g, h, i) refl
+pub joins_alike : {k k' m m' : ℕ} {a a' b b' : Tree} {r r' : Float} → k ≡ k' → a ≡ a' → b ≡ b' → m ≡ m' → r ≡ r'
+    → join_text (record { axes = k; left = a; right = b }) m r ≡ join_text (record { axes = k'; left = a'; right = b' }) m' r'
+joins_alike e f g h i = rw (e, f, g, h, i) refl

@@ -4,14 +4,14 @@ use Rattle.std.specs.Float.Ieee.{of_bits, to_bits}
 use Rattle.written.specs.LentTree.{levels}
 use Rattle.written.specs.Check.{every, down, refusal}
 use Rattle.written.specs.Visits.{runs}
-use Rattle.written.specs.Totals.{walkTotals}
+use Rattle.written.specs.Totals.{walk_totals}
 use Rattle.written.specs.RadiusWalk.{found}
 use Rattle.written.specs.Answers.{stored}
 use Rattle.reading.specs.Little.{number16, number32, number64, numbers, floats}
-use Rattle.reading.specs.Header.{jobRefusal}
+use Rattle.reading.specs.Header.{job_refusal}
 use Rattle.printing.specs.Numerals.{decimal, hexadecimal}
-use Rattle.printing.specs.Text.{firstLine, line, lines, totalsLine}
-use Rattle.job.specs.Printed.{pairsText, printed}
+use Rattle.printing.specs.Text.{first_line, line, lines, totals_line}
+use Rattle.job.specs.Printed.{pairs_text, printed}
 
 -- KDJ, version 1, K = 2, mode 0, a zero byte, radius 10
 abbrev header : List ℕ
@@ -22,15 +22,15 @@ abbrev left : List ℕ
 left = 2 ∷ 0 ∷ 0 ∷ 0 ∷ 4 ∷ 0 ∷ 0 ∷ 0 ∷ 0 ∷ 0 ∷ 0 ∷ 0 ∷ 2 ∷ 0 ∷ 0 ∷ 0 ∷ 4 ∷ 0 ∷ 0 ∷ 0 ∷ 0 ∷ 0 ∷ 0 ∷ 0 ∷ 0 ∷ 0 ∷ 0 ∷ 0 ∷ 0 ∷ 0 ∷ 0 ∷ 0 ∷ 0 ∷ 0 ∷ 16 ∷ 64 ∷ []
 
 -- its items 10 to 13, and the coordinates 1, 4, 4, 7 and 1, 2, 6, 1
-abbrev leftPoints : List ℕ
-leftPoints = 10 ∷ 0 ∷ 0 ∷ 0 ∷ 11 ∷ 0 ∷ 0 ∷ 0 ∷ 12 ∷ 0 ∷ 0 ∷ 0 ∷ 13 ∷ 0 ∷ 0 ∷ 0 ∷ 0 ∷ 0 ∷ 0 ∷ 0 ∷ 0 ∷ 0 ∷ 240 ∷ 63 ∷ 0 ∷ 0 ∷ 0 ∷ 0 ∷ 0 ∷ 0 ∷ 16 ∷ 64 ∷ 0 ∷ 0 ∷ 0 ∷ 0 ∷ 0 ∷ 0 ∷ 16 ∷ 64 ∷ 0 ∷ 0 ∷ 0 ∷ 0 ∷ 0 ∷ 0 ∷ 28 ∷ 64 ∷ 0 ∷ 0 ∷ 0 ∷ 0 ∷ 0 ∷ 0 ∷ 240 ∷ 63 ∷ 0 ∷ 0 ∷ 0 ∷ 0 ∷ 0 ∷ 0 ∷ 0 ∷ 64 ∷ 0 ∷ 0 ∷ 0 ∷ 0 ∷ 0 ∷ 0 ∷ 24 ∷ 64 ∷ 0 ∷ 0 ∷ 0 ∷ 0 ∷ 0 ∷ 0 ∷ 240 ∷ 63 ∷ []
+abbrev left_points : List ℕ
+left_points = 10 ∷ 0 ∷ 0 ∷ 0 ∷ 11 ∷ 0 ∷ 0 ∷ 0 ∷ 12 ∷ 0 ∷ 0 ∷ 0 ∷ 13 ∷ 0 ∷ 0 ∷ 0 ∷ 0 ∷ 0 ∷ 0 ∷ 0 ∷ 0 ∷ 0 ∷ 240 ∷ 63 ∷ 0 ∷ 0 ∷ 0 ∷ 0 ∷ 0 ∷ 0 ∷ 16 ∷ 64 ∷ 0 ∷ 0 ∷ 0 ∷ 0 ∷ 0 ∷ 0 ∷ 16 ∷ 64 ∷ 0 ∷ 0 ∷ 0 ∷ 0 ∷ 0 ∷ 0 ∷ 28 ∷ 64 ∷ 0 ∷ 0 ∷ 0 ∷ 0 ∷ 0 ∷ 0 ∷ 240 ∷ 63 ∷ 0 ∷ 0 ∷ 0 ∷ 0 ∷ 0 ∷ 0 ∷ 0 ∷ 64 ∷ 0 ∷ 0 ∷ 0 ∷ 0 ∷ 0 ∷ 0 ∷ 24 ∷ 64 ∷ 0 ∷ 0 ∷ 0 ∷ 0 ∷ 0 ∷ 0 ∷ 240 ∷ 63 ∷ []
 
 -- right: 1 leaf, 2 points, starts 0 and 2, items 20 and 21, coordinates 1, 7 and 5, 1
 abbrev right : List ℕ
 right = 1 ∷ 0 ∷ 0 ∷ 0 ∷ 2 ∷ 0 ∷ 0 ∷ 0 ∷ 0 ∷ 0 ∷ 0 ∷ 0 ∷ 2 ∷ 0 ∷ 0 ∷ 0 ∷ 20 ∷ 0 ∷ 0 ∷ 0 ∷ 21 ∷ 0 ∷ 0 ∷ 0 ∷ 0 ∷ 0 ∷ 0 ∷ 0 ∷ 0 ∷ 0 ∷ 240 ∷ 63 ∷ 0 ∷ 0 ∷ 0 ∷ 0 ∷ 0 ∷ 0 ∷ 28 ∷ 64 ∷ 0 ∷ 0 ∷ 0 ∷ 0 ∷ 0 ∷ 0 ∷ 20 ∷ 64 ∷ 0 ∷ 0 ∷ 0 ∷ 0 ∷ 0 ∷ 0 ∷ 240 ∷ 63 ∷ []
 
 abbrev pub a1 : List ℕ
-a1 = header ++ left ++ leftPoints ++ right
+a1 = header ++ left ++ left_points ++ right
 
 -- pairs 3
 abbrev first : List ℕ
@@ -52,6 +52,6 @@ fourth = 49 ∷ 51 ∷ 32 ∷ 50 ∷ 49 ∷ 32 ∷ 48 ∷ 48 ∷ 48 ∷ 48 ∷ 4
 abbrev last : List ℕ
 last = 118 ∷ 105 ∷ 115 ∷ 105 ∷ 116 ∷ 115 ∷ 32 ∷ 51 ∷ 32 ∷ 109 ∷ 101 ∷ 97 ∷ 115 ∷ 117 ∷ 114 ∷ 101 ∷ 100 ∷ 32 ∷ 56 ∷ 32 ∷ 114 ∷ 117 ∷ 108 ∷ 101 ∷ 100 ∷ 111 ∷ 117 ∷ 116 ∷ 32 ∷ 48 ∷ 32 ∷ 119 ∷ 104 ∷ 111 ∷ 108 ∷ 101 ∷ 32 ∷ 48 ∷ 10 ∷ []
 
-pub a1-prints : printed a1 ≡ first ++ second ++ third ++ fourth ++ last
-unfolding jobRefusal number16 number32 number64 numbers floats levels of_bits every down refusal runs found stored walkTotals pairsText firstLine lines line totalsLine decimal hexadecimal to_bits
-a1-prints = refl
+pub a1_prints : printed a1 ≡ first ++ second ++ third ++ fourth ++ last
+unfolding job_refusal number16 number32 number64 numbers floats levels of_bits every down refusal runs found stored walk_totals pairs_text first_line lines line totals_line decimal hexadecimal to_bits
+a1_prints = refl

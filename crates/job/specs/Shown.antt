@@ -6,20 +6,20 @@ use Rattle.job.specs.Printed.{printed}
 use Rattle.answer.specs.declared.Answer.{Answer as Held}
 
 -- how many lines: those found, none of a refusal
-abbrev pub linesBy : (number : ℕ) → ℕ → ℕ
-linesBy zero found = found
-linesBy (suc n) found = 0
+abbrev pub lines_by : (number : ℕ) → ℕ → ℕ
+lines_by zero found = found
+lines_by (suc n) found = 0
 
 abbrev pub lines_of : Held → ℕ
-lines_of a = linesBy a.number a.found
+lines_of a = lines_by a.number a.found
 
 -- n lines of a kind can be printed
 pub record Printable (n : ℕ) (kind lefts rights : List ℕ) (distances : List Float) : Type 0 where
   pub short : length kind ≤ 8
   pub few : n ≤ 1024
-  pub lefts-held : n ≤ length lefts
-  pub rights-held : n ≤ length rights
-  pub distances-held : n ≤ length distances
+  pub lefts_held : n ≤ length lefts
+  pub rights_held : n ≤ length rights
+  pub distances_held : n ≤ length distances
 
 -- a whole text, from the buffer's first place on; none is longer than 65,536 bytes
 pub record Prints (before : List ℕ) (t : List ℕ) (after : List ℕ) (n : ℕ) : Type 0 where

@@ -1,8 +1,8 @@
 // Both readings of the radius, by a value: "under", or else "up to".
 ghost use Rattle.metric.specs.Edges.{edge_of};
-ghost use Rattle.trees.specs.Lent.{treesOf};
+ghost use Rattle.trees.specs.Lent.{trees_of};
 ghost use Rattle.answer.specs.Rooms.{rooms_of};
-ghost use Rattle.join.specs.Told.{PairsTold, CountsTold, withRooms};
+ghost use Rattle.join.specs.Told.{PairsTold, CountsTold, with_rooms};
 
 use join::Answer;
 
@@ -23,7 +23,7 @@ pub fn pairs<'a>(
     rout: &mut [u32],
     dout: &mut [f64],
 ) -> Answer
-    ensures { PairsTold (treesOf k lstarts.now lstems.now litems.now lcoords.now rstarts.now rstems.now ritems.now rcoords.now) (edge_of under) radius (rooms_of lout.old rout.old dout.old) (withRooms result lout.new rout.new dout.new) }
+    ensures { PairsTold (trees_of k lstarts.now lstems.now litems.now lcoords.now rstarts.now rstems.now ritems.now rcoords.now) (edge_of under) radius (rooms_of lout.old rout.old dout.old) (with_rooms result lout.new rout.new dout.new) }
 {
     if under {
         return join::pairs_under(
@@ -51,7 +51,7 @@ pub fn counts<'a>(
     ritems: &[u32],
     rcoords: &[f64],
 ) -> Answer
-    ensures { CountsTold (treesOf k lstarts.now lstems.now litems.now lcoords.now rstarts.now rstems.now ritems.now rcoords.now) (edge_of under) radius result }
+    ensures { CountsTold (trees_of k lstarts.now lstems.now litems.now lcoords.now rstarts.now rstems.now ritems.now rcoords.now) (edge_of under) radius result }
 {
     if under {
         return join::counts_under(

@@ -1,8 +1,8 @@
 // The job program as a function: the bytes of a job in, the bytes of its text out. Added by the port.
 ghost use Rattle.std.specs.Prelude.{◌≤◌, length};
 ghost use Rattle.reading.specs.Lays.{Lays};
-ghost use Rattle.reading.specs.Header.{axes, mode, radius, trees, rightAt};
-ghost use Rattle.job.specs.Printed.{joinText};
+ghost use Rattle.reading.specs.Header.{axes, mode, radius, trees, right_at};
+ghost use Rattle.job.specs.Printed.{join_text};
 ghost use Rattle.job.specs.Shown.{Prints, Ran};
 
 use reading::{Laid, Layout, byte_at, decode, f64_at, lay};
@@ -15,8 +15,8 @@ pub use crate::calling::{counts, pairs};
 
 // Both trees taken out of the job, and joined.
 fn joined(s: &[u8], l: Layout, r: Layout, out: &mut [u8]) -> usize
-    requires { (16 ≤ length s.now) × (length s.now ≤ 16384) × (Lays (axes s.now) s.now 16 l) × (Lays (axes s.now) s.now (rightAt s.now) r) }
-    ensures { Prints out.old (joinText (trees s.now) (mode s.now) (radius s.now)) out.new result }
+    requires { (16 ≤ length s.now) × (length s.now ≤ 16384) × (Lays (axes s.now) s.now 16 l) × (Lays (axes s.now) s.now (right_at s.now) r) }
+    ensures { Prints out.old (join_text (trees s.now) (mode s.now) (radius s.now)) out.new result }
 {
     let mut lstarts = [0u32; 4096];
     let mut lstems = [0.0f64; 2048];

@@ -1,7 +1,7 @@
 // The joins that a job can ask for, each with its text.
 ghost use Rattle.metric.specs.Edges.{edge_of};
-ghost use Rattle.trees.specs.Lent.{treesOf};
-ghost use Rattle.job.specs.Printed.{pairsText, countsText, nearestText, joinText};
+ghost use Rattle.trees.specs.Lent.{trees_of};
+ghost use Rattle.job.specs.Printed.{pairs_text, counts_text, nearest_text, join_text};
 ghost use Rattle.job.specs.Shown.{Prints};
 
 use crate::told::{shown, told};
@@ -21,7 +21,7 @@ fn pairs_text<'a>(
     rcoords: &[f64],
     out: &mut [u8],
 ) -> usize
-    ensures { Prints out.old (pairsText (treesOf k lstarts.now lstems.now litems.now lcoords.now rstarts.now rstems.now ritems.now rcoords.now) (edge_of under) radius) out.new result }
+    ensures { Prints out.old (pairs_text (trees_of k lstarts.now lstems.now litems.now lcoords.now rstarts.now rstems.now ritems.now rcoords.now) (edge_of under) radius) out.new result }
 {
     let mut lefts = [0u32; 1024];
     let mut rights = [0u32; 1024];
@@ -61,7 +61,7 @@ fn counts_text<'a>(
     rcoords: &[f64],
     out: &mut [u8],
 ) -> usize
-    ensures { Prints out.old (countsText (treesOf k lstarts.now lstems.now litems.now lcoords.now rstarts.now rstems.now ritems.now rcoords.now) (edge_of under) radius) out.new result }
+    ensures { Prints out.old (counts_text (trees_of k lstarts.now lstems.now litems.now lcoords.now rstarts.now rstems.now ritems.now rcoords.now) (edge_of under) radius) out.new result }
 {
     let a = crate::calling::counts(
         under, k, radius, lstarts, lstems, litems, lcoords, rstarts, rstems, ritems, rcoords,
@@ -82,7 +82,7 @@ fn nearest_text<'a>(
     rcoords: &[f64],
     out: &mut [u8],
 ) -> usize
-    ensures { Prints out.old (nearestText (treesOf k lstarts.now lstems.now litems.now lcoords.now rstarts.now rstems.now ritems.now rcoords.now)) out.new result }
+    ensures { Prints out.old (nearest_text (trees_of k lstarts.now lstems.now litems.now lcoords.now rstarts.now rstems.now ritems.now rcoords.now)) out.new result }
 {
     let mut items = [0u32; 1024];
     let mut distances = [0.0f64; 1024];
@@ -118,7 +118,7 @@ pub fn join_text<'a>(
     rcoords: &[f64],
     out: &mut [u8],
 ) -> usize
-    ensures { Prints out.old (joinText (treesOf k lstarts.now lstems.now litems.now lcoords.now rstarts.now rstems.now ritems.now rcoords.now) mode radius) out.new result }
+    ensures { Prints out.old (join_text (trees_of k lstarts.now lstems.now litems.now lcoords.now rstarts.now rstems.now ritems.now rcoords.now) mode radius) out.new result }
 {
     if mode < 2 {
         return pairs_text(

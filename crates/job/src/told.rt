@@ -2,7 +2,7 @@
 ghost use Rattle.std.specs.Prelude.{◌≡◌};
 ghost use Rattle.printing.specs.Rows.{rows};
 ghost use Rattle.join.specs.Told.{answer_of};
-ghost use Rattle.job.specs.Printed.{answerText};
+ghost use Rattle.job.specs.Printed.{answer_text};
 ghost use Rattle.job.specs.Shown.{lines_of, Printable, Prints};
 
 use join::Answer;
@@ -28,7 +28,7 @@ pub fn told(
     distances: &[f64],
 ) -> usize
     requires { Printable n kind.now lefts.now rights.now distances.now }
-    ensures { Prints out.old (answerText kind.now (answer_of a) (rows n lefts.now rights.now distances.now)) out.new result }
+    ensures { Prints out.old (answer_text kind.now (answer_of a) (rows n lefts.now rights.now distances.now)) out.new result }
 {
     if a.number != 0 {
         return printing::refused(&mut *out, a.number, a.side);

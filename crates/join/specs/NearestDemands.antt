@@ -6,20 +6,20 @@ use Rattle.std.specs.Float.{inf, nan}
 use Rattle.std.specs.Float.Ieee.{le}
 use Rattle.written.specs.LentTree.{places, item as item_of}
 use Rattle.written.specs.Boxes.{Trees, distance as distance_of}
-use Rattle.written.specs.NodePairs.{stemLevels}
-use Rattle.written.specs.Nearest.{Neighbour, unset, answerAt, nearest, noPoints}
-use Rattle.written.specs.Totals.{Totals, none, nearTotals}
-use Rattle.written.specs.Answers.{Answer, answered, refused, Accepts, NearRooms, nearRoomsAgree, nearRoomOk, nearestGiven}
-use Rattle.written.specs.Calls.{NearRoomsAgree, NearestAnswer, nearest-given, nearest-rooms-differ, nearest-room-short, nearest-no-points, nearest-written}
-use Rattle.written.specs.Right.{nearest-for-each, nearest-least, nearest-item}
-use Rattle.written.specs.Accounted.{near-totals-add-up}
-use Rattle.written.specs.Limits.{near-visits-bounded, nearest-takes-none-whole}
-use Rattle.written.specs.Answered.{nearest-means}
-use Rattle.written.specs.Laws.Tests.{neither, not-both, at_most, equal}
-use Rattle.written.specs.Laws.Points.{has-points, both_hold}
+use Rattle.written.specs.NodePairs.{stem_levels}
+use Rattle.written.specs.Nearest.{Neighbour, unset, answer_at, nearest, no_points}
+use Rattle.written.specs.Totals.{Totals, none, near_totals}
+use Rattle.written.specs.Answers.{Answer, answered, refused, Accepts, NearRooms, near_rooms_agree, near_room_ok, nearestGiven}
+use Rattle.written.specs.Calls.{NearRoomsAgree, NearestAnswer, nearest-given, nearest_rooms_differ, nearest_room_short, nearest_no_points, nearest_written}
+use Rattle.written.specs.Right.{nearest_for_each, nearest_least, nearest_item}
+use Rattle.written.specs.Accounted.{near_totals_add_up}
+use Rattle.written.specs.Limits.{near_visits_bounded, nearest_takes_none_whole}
+use Rattle.written.specs.Answered.{nearest_means}
+use Rattle.written.specs.Laws.Tests.{neither, not_both, at_most, equal}
+use Rattle.written.specs.Laws.Points.{has_points, both_hold}
 use Rattle.join.specs.Told.{answer_of, Result, NearestTold}
-use Rattle.join.specs.Onward.{nearest-walk}
-use Rattle.join.specs.Demands.{Refused, refused-untouched}
+use Rattle.join.specs.Onward.{nearest_walk}
+use Rattle.join.specs.Demands.{Refused, refused_untouched}
 
 -- ---- what each demand says
 
@@ -32,7 +32,7 @@ RoomShort j b = HoldPoints j × (length b.distances < places j.left)
 
 -- whose item and distance the answer of the left place p is: a right place's; or item 0 at +inf, when every distance overflows
 pub data Belongs (j : Trees) (p : ℕ) : (item : ℕ) → (distance : Float) → Type 0 where
-  to-a-place : (q : ℕ) → q < places j.right → Belongs j p (item_of j.right q) (distance_of j p q)
+  to_a_place : (q : ℕ) → q < places j.right → Belongs j p (item_of j.right q) (distance_of j p q)
   to_none : ((q : ℕ) → q < places j.right → distance_of j p q ≡ inf false) → Belongs j p 0 (inf false)
 
 -- the answer of the left place p: none of the place's rounded distances is below its own, which is one of them
@@ -43,41 +43,41 @@ pub record NearestAt (j : Trees) (p item : ℕ) (distance : Float) : Type 0 wher
 -- an answer for each left place, in left place order; beyond them the rooms are as they were
 pub record NearestRight (j : Trees) (before : NearRooms) (a : Answer) (after : NearRooms) : Type 0 where
   pub no_number : a.number ≡ 0
-  pub no-side : a.side ≡ 0
-  pub for-each : a.found ≡ places j.left
+  pub no_side : a.side ≡ 0
+  pub for_each : a.found ≡ places j.left
   pub one_each : length (nearest j) ≡ places j.left
-  pub items-stored : after.items ≡ map (λ x. x.item) (nearest j) ++ drop (places j.left) before.items
-  pub distances-stored : after.distances ≡ map (λ x. x.distance) (nearest j) ++ drop (places j.left) before.distances
-  pub right-at : (p : ℕ) → p < places j.left → NearestAt j p (get_or after.items p 0) (get_or after.distances p nan)
+  pub items_stored : after.items ≡ map (λ x. x.item) (nearest j) ++ drop (places j.left) before.items
+  pub distances_stored : after.distances ≡ map (λ x. x.distance) (nearest j) ++ drop (places j.left) before.distances
+  pub right_at : (p : ℕ) → p < places j.left → NearestAt j p (get_or after.items p 0) (get_or after.distances p nan)
 
 -- each total is the walk's own sum; the three add up, the visits are bounded, and no node pair is taken whole
 pub record NearestAccounted (j : Trees) (t : Totals) : Type 0 where
-  pub of-the-walk : t ≡ nearTotals j
-  pub adding-up : t.measured + t.ruledOut + t.whole ≡ places j.left * places j.right
-  pub few-visits : t.visits ≤ 2 ^ (stemLevels j + 1) - 1
-  pub none-whole : t.whole ≡ 0
+  pub of_the_walk : t ≡ near_totals j
+  pub adding_up : t.measured + t.ruled_out + t.whole ≡ places j.left * places j.right
+  pub few_visits : t.visits ≤ 2 ^ (stem_levels j + 1) - 1
+  pub none_whole : t.whole ≡ 0
 
 -- ---- whether the trees hold points, and whether there is room
 
-no-points : (j : Trees) → (HoldPoints j → ⊥) → noPoints j ≡ true
-no-points j empty = go (noPoints j) refl
+no_points_lem : (j : Trees) → (HoldPoints j → ⊥) → no_points j ≡ true
+no_points_lem j empty = go (no_points j) refl
   where
-    go : (t : Bool) → noPoints j ≡ t → noPoints j ≡ true
+    go : (t : Bool) → no_points j ≡ t → no_points j ≡ true
     go true e = e
     go false e = absurd (empty (both_hold j e))
 
-room-for-all : (j : Trees) (b : NearRooms) → (RoomShort j b → ⊥) → nearRoomOk j b ≡ true
-room-for-all j b enough = go (nearRoomOk j b) refl
+room_for_all : (j : Trees) (b : NearRooms) → (RoomShort j b → ⊥) → near_room_ok j b ≡ true
+room_for_all j b enough = go (near_room_ok j b) refl
   where
-    go : (t : Bool) → nearRoomOk j b ≡ t → nearRoomOk j b ≡ true
+    go : (t : Bool) → near_room_ok j b ≡ t → near_room_ok j b ≡ true
     go true e = e
     go false e =
-        let n = neither (noPoints j) (leb (places j.left) (length b.distances)) e in
+        let n = neither (no_points j) (leb (places j.left) (length b.distances)) e in
         absurd (enough (both_hold j n.0, below (dec_lt (length b.distances) (places j.left)) n.1))
       where
         below : Dec (length b.distances < places j.left) → leb (places j.left) (length b.distances) ≡ false → length b.distances < places j.left
         below (yes h) f = h
-        below (no k) f = absurd (not-both ((at_most (places j.left) (length b.distances)).1 (omega arith)) f)
+        below (no k) f = absurd (not_both ((at_most (places j.left) (length b.distances)).1 (omega arith)) f)
 
 -- ---- what is read at a place
 
@@ -88,77 +88,77 @@ part_at part (z ∷ l) rest zero x y h = refl
 part_at part (z ∷ l) rest (suc p) x y h = part_at part l rest p x y (omega arith)
 
 module _ (j : Trees) (ok : Accepts j) (p : ℕ) (h : p < places j.left) (some : 0 < places j.right) where
-  belonging : Belongs j p (answerAt (nearest j) p).item (answerAt (nearest j) p).distance
+  belonging : Belongs j p (answer_at (nearest j) p).item (answer_at (nearest j) p).distance
   belonging =
-      elim (nearest-item j ok p h some) [
-        | inl x ↦ subst (λ (y : Neighbour). Belongs j p y.item y.distance) (sym (ap₂ (λ (i : ℕ) (d : Float). record { item = i; distance = d }) x.2 x.3)) (to-a-place x.0 x.1)
+      elim (nearest_item j ok p h some) [
+        | inl x ↦ subst (λ (y : Neighbour). Belongs j p y.item y.distance) (sym (ap₂ (λ (i : ℕ) (d : Float). record { item = i; distance = d }) x.2 x.3)) (to_a_place x.0 x.1)
         | inr x ↦ subst (λ (y : Neighbour). Belongs j p y.item y.distance) (sym x.0) (to_none x.1)
       ]
 
-  nearest-at : NearestAt j p (answerAt (nearest j) p).item (answerAt (nearest j) p).distance
-  nearest-at = record { least = nearest-least j ok p h some; belongs = belonging }
+  nearest_at : NearestAt j p (answer_at (nearest j) p).item (answer_at (nearest j) p).distance
+  nearest_at = record { least = nearest_least j ok p h some; belongs = belonging }
 
   -- so it is in the rooms, whatever is beyond the answers
   read_at : (items : List ℕ) (distances : List Float) → length (nearest j) ≡ places j.left
       → NearestAt j p (get_or (map (λ x. x.item) (nearest j) ++ items) p 0) (get_or (map (λ x. x.distance) (nearest j) ++ distances) p nan)
   read_at items distances n =
-      rw (part_at (λ x. x.item) (nearest j) items p unset 0 (omega arith), part_at (λ x. x.distance) (nearest j) distances p unset nan (omega arith)) nearest-at
+      rw (part_at (λ x. x.item) (nearest j) items p unset 0 (omega arith), part_at (λ x. x.distance) (nearest j) distances p unset nan (omega arith)) nearest_at
 
 -- ---- the call
 
 module _ (j : Trees) (b : NearRooms) (r : Result NearRooms) (told : NearestTold j b r) where
-  pub nearest-refused : (Accepts j → ⊥) → Refused j (answer_of r.answer) × (r.rooms ≡ b)
-  nearest-refused bad = refused-untouched j b (nearestGiven (nearest j) (nearTotals j) b (nearRoomsAgree b) (nearRoomOk j b)) told bad
+  pub nearest_refused : (Accepts j → ⊥) → Refused j (answer_of r.answer) × (r.rooms ≡ b)
+  nearest_refused bad = refused_untouched j b (nearestGiven (nearest j) (near_totals j) b (near_rooms_agree b) (near_room_ok j b)) told bad
 
   -- the row of the table that applies
   row_is : {x : Answer × NearRooms} → NearestAnswer j b x → (answer_of r.answer, r.rooms) ≡ x
-  row_is {x} row = told ∙ sym ((nearest-means j b x).0 row)
+  row_is {x} row = told ∙ sym ((nearest_means j b x).0 row)
 
   by_row : {a : Answer} {after : NearRooms} → NearestAnswer j b (a, after) → (answer_of r.answer ≡ a) × (r.rooms ≡ after)
   by_row row = (ap (λ (x : Answer × NearRooms). x.0) (row_is row), ap (λ (x : Answer × NearRooms). x.1) (row_is row))
 
   module _ (ok : Accepts j) where
     -- rule 8
-    pub nearest-rooms-refused : (NearRoomsAgree b → ⊥) → (answer_of r.answer ≡ refused 8 0) × (r.rooms ≡ b)
-    nearest-rooms-refused differ = by_row (nearest-given ok (nearest-rooms-differ differ))
+    pub nearest_rooms_refused : (NearRoomsAgree b → ⊥) → (answer_of r.answer ≡ refused 8 0) × (r.rooms ≡ b)
+    nearest_rooms_refused differ = by_row (nearest-given ok (nearest_rooms_differ differ))
 
     module _ (agree : NearRoomsAgree b) where
-      none_written : noPoints j ≡ true → (answer_of r.answer ≡ answered 0 0 none) × (r.rooms ≡ b)
-      none_written e = by_row (nearest-given ok (nearest-no-points agree e))
+      none_written : no_points j ≡ true → (answer_of r.answer ≡ answered 0 0 none) × (r.rooms ≡ b)
+      none_written e = by_row (nearest-given ok (nearest_no_points agree e))
 
       -- a tree without points: nothing is written, whatever the room, and all totals are 0
-      pub nearest-of-none : (HoldPoints j → ⊥) → (answer_of r.answer ≡ answered 0 0 none) × (r.rooms ≡ b)
-      nearest-of-none empty = none_written (no-points j empty)
+      pub nearest_of_none : (HoldPoints j → ⊥) → (answer_of r.answer ≡ answered 0 0 none) × (r.rooms ≡ b)
+      nearest_of_none empty = none_written (no_points_lem j empty)
 
       -- rule 9, told beforehand, and then alone
-      pub nearest-room-refused : (RoomShort j b → (answer_of r.answer ≡ refused 9 0) × (r.rooms ≡ b)) × ((answer_of r.answer).number ≡ 9 → RoomShort j b)
-      nearest-room-refused = (λ s. by_row (nearest-given ok (nearest-room-short agree (has-points j 0 0 s.0.0 s.0.1) s.1)), only (noPoints j) refl (dec_lt (length b.distances) (places j.left)))
+      pub nearest_room_refused : (RoomShort j b → (answer_of r.answer ≡ refused 9 0) × (r.rooms ≡ b)) × ((answer_of r.answer).number ≡ 9 → RoomShort j b)
+      nearest_room_refused = (λ s. by_row (nearest-given ok (nearest_room_short agree (has_points j 0 0 s.0.0 s.0.1) s.1)), only (no_points j) refl (dec_lt (length b.distances) (places j.left)))
         where
-          only : (t : Bool) → noPoints j ≡ t → Dec (length b.distances < places j.left) → (answer_of r.answer).number ≡ 9 → RoomShort j b
+          only : (t : Bool) → no_points j ≡ t → Dec (length b.distances < places j.left) → (answer_of r.answer).number ≡ 9 → RoomShort j b
           only true e d nine = absurd (omega (arith, nine, ap (λ (a : Answer). a.number) (none_written e).0))
           only false e (yes h) nine = (both_hold j e, h)
-          only false e (no k) nine = absurd (omega (arith, nine, ap (λ (a : Answer). a.number) (by_row (nearest-given ok (nearest-written agree e (omega arith)))).0))
+          only false e (no k) nine = absurd (omega (arith, nine, ap (λ (a : Answer). a.number) (by_row (nearest-given ok (nearest_written agree e (omega arith)))).0))
 
-      pub nearest-right : HoldPoints j → places j.left ≤ length b.distances → NearestRight j b (answer_of r.answer) r.rooms
-      nearest-right hold room =
-          let e = row_is (nearest-given ok (nearest-written agree (has-points j 0 0 hold.0 hold.1) room)) in
-          let n = nearest-for-each j ok hold.0 hold.1 in
+      pub nearest_right : HoldPoints j → places j.left ≤ length b.distances → NearestRight j b (answer_of r.answer) r.rooms
+      nearest_right hold room =
+          let e = row_is (nearest-given ok (nearest_written agree (has_points j 0 0 hold.0 hold.1) room)) in
+          let n = nearest_for_each j ok hold.0 hold.1 in
           subst (λ (x : Answer × NearRooms). NearestRight j b x.0 x.1) (sym e) (record {
             no_number = refl;
-            no-side = refl;
-            for-each = refl;
+            no_side = refl;
+            for_each = refl;
             one_each = n;
-            items-stored = refl;
-            distances-stored = refl;
-            right-at = λ p h. read_at j ok p h hold.1 (drop (places j.left) b.items) (drop (places j.left) b.distances) n;
+            items_stored = refl;
+            distances_stored = refl;
+            right_at = λ p h. read_at j ok p h hold.1 (drop (places j.left) b.items) (drop (places j.left) b.distances) n;
           })
 
-      pub nearest-accounted : (RoomShort j b → ⊥) → NearestAccounted j (answer_of r.answer).totals
-      nearest-accounted enough =
-          let walked = told ∙ nearest-walk j b ok ((equal (length b.items) (length b.distances)).1 agree) (room-for-all j b enough) in
+      pub nearest_accounted : (RoomShort j b → ⊥) → NearestAccounted j (answer_of r.answer).totals
+      nearest_accounted enough =
+          let walked = told ∙ nearest_walk j b ok ((equal (length b.items) (length b.distances)).1 agree) (room_for_all j b enough) in
           subst (λ (x : Answer × NearRooms). NearestAccounted j x.0.totals) (sym walked) (record {
-            of-the-walk = refl;
-            adding-up = near-totals-add-up j ok;
-            few-visits = near-visits-bounded j;
-            none-whole = nearest-takes-none-whole j;
+            of_the_walk = refl;
+            adding_up = near_totals_add_up j ok;
+            few_visits = near_visits_bounded j;
+            none_whole = nearest_takes_none_whole j;
           })

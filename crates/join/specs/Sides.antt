@@ -4,9 +4,9 @@ use Rattle.std.proofs.lemmas.Bool.{false≢true}
 use Rattle.std.proofs.Common.{arith}
 use Rattle.written.specs.LentTree.{Tree}
 use Rattle.written.specs.Boxes.{Trees}
-use Rattle.written.specs.Check.{axesOk, sizesOk, lengthsOk, startsOk, coordsOk, pivotsOk, orderOk, refusal}
-use Rattle.written.specs.Calls.{TreeRefused, left-broken, right-broken}
-use Rattle.written.specs.Checked.{refusal-is-first, first-is-one}
+use Rattle.written.specs.Check.{axes_ok, sizes_ok, lengths_ok, starts_ok, coords_ok, pivots_ok, order_ok, refusal}
+use Rattle.written.specs.Calls.{TreeRefused, left_broken, right_broken}
+use Rattle.written.specs.Checked.{refusal_is_first, first_is_one}
 
 kept : (a : Bool) (others : ℕ) → cond a others 1 ≡ 0 → a ≡ true
 kept true others e = refl
@@ -24,17 +24,17 @@ others true true true true true true false a e = omega arith
 others true true true true true true true a e = omega arith
 
 module _ (K : ℕ) (t : Tree) where
-  axes-kept : refusal K t ≡ 0 → axesOk K t ≡ true
+  axes_kept : refusal K t ≡ 0 → axes_ok K t ≡ true
   unfolding refusal
-  axes-kept e = kept (axesOk K t) _ e
+  axes_kept e = kept (axes_ok K t) _ e
 
-  not-one : axesOk K t ≡ true → refusal K t ≡ 1 → ⊥
+  not_one : axes_ok K t ≡ true → refusal K t ≡ 1 → ⊥
   unfolding refusal
-  not-one a e = others (axesOk K t) (sizesOk K t) (lengthsOk K t) (startsOk K t) (coordsOk K t) (pivotsOk K t) (orderOk K t) a e
+  not_one a e = others (axes_ok K t) (sizes_ok K t) (lengths_ok K t) (starts_ok K t) (coords_ok K t) (pivots_ok K t) (order_ok K t) a e
 
-pub one-is-left : (j : Trees) {side : ℕ} → TreeRefused j 1 side → side ≡ 0
-one-is-left j (left-broken f) = refl
-one-is-left j (right-broken k f) =
-    let left = first-is-one j.axes j.left (refusal-is-first j.axes j.left) k in
-    let right = first-is-one j.axes j.right (refusal-is-first j.axes j.right) f in
-    absurd (not-one j.axes j.right (axes-kept j.axes j.left left) right)
+pub one_is_left : (j : Trees) {side : ℕ} → TreeRefused j 1 side → side ≡ 0
+one_is_left j (left_broken f) = refl
+one_is_left j (right_broken k f) =
+    let left = first_is_one j.axes j.left (refusal_is_first j.axes j.left) k in
+    let right = first_is_one j.axes j.right (refusal_is_first j.axes j.right) f in
+    absurd (not_one j.axes j.right (axes_kept j.axes j.left left) right)

@@ -3,21 +3,21 @@ use Rattle.std.specs.Prelude.{◌↔◌, Float}
 use Rattle.written.specs.Boxes.{Trees, Edge}
 use Rattle.written.specs.Answers.{PairRooms, NearRooms}
 use Rattle.written.specs.Calls.{PairsAnswer, CountsAnswer, NearestAnswer}
-use Rattle.written.specs.Answered.{pairs-mean, counts-mean, nearest-means}
+use Rattle.written.specs.Answered.{pairs_mean, counts_mean, nearest_means}
 use Rattle.answer.specs.declared.Answer.{Answer as Held}
 use Rattle.join.specs.Told.{answer_of, Result, PairsTold, CountsTold, NearestTold}
 
-pub pairs-table : (j : Trees) (edge : Edge) (radius : Float) (b : PairRooms) (r : Result PairRooms) → PairsTold j edge radius b r ↔ PairsAnswer j edge radius b (answer_of r.answer, r.rooms)
-pairs-table j edge radius b r =
-    let m = pairs-mean j edge radius b (answer_of r.answer, r.rooms) in
+pub pairs_table : (j : Trees) (edge : Edge) (radius : Float) (b : PairRooms) (r : Result PairRooms) → PairsTold j edge radius b r ↔ PairsAnswer j edge radius b (answer_of r.answer, r.rooms)
+pairs_table j edge radius b r =
+    let m = pairs_mean j edge radius b (answer_of r.answer, r.rooms) in
     (m.1, m.0)
 
-pub counts-table : (j : Trees) (edge : Edge) (radius : Float) (a : Held) → CountsTold j edge radius a ↔ CountsAnswer j edge radius (answer_of a)
-counts-table j edge radius a =
-    let m = counts-mean j edge radius (answer_of a) in
+pub counts_table : (j : Trees) (edge : Edge) (radius : Float) (a : Held) → CountsTold j edge radius a ↔ CountsAnswer j edge radius (answer_of a)
+counts_table j edge radius a =
+    let m = counts_mean j edge radius (answer_of a) in
     (m.1, m.0)
 
-pub nearest-table : (j : Trees) (b : NearRooms) (r : Result NearRooms) → NearestTold j b r ↔ NearestAnswer j b (answer_of r.answer, r.rooms)
-nearest-table j b r =
-    let m = nearest-means j b (answer_of r.answer, r.rooms) in
+pub nearest_table : (j : Trees) (b : NearRooms) (r : Result NearRooms) → NearestTold j b r ↔ NearestAnswer j b (answer_of r.answer, r.rooms)
+nearest_table j b r =
+    let m = nearest_means j b (answer_of r.answer, r.rooms) in
     (m.1, m.0)

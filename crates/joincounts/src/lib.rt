@@ -1,7 +1,7 @@
 // How many pairs are within a radius.
 ghost use Rattle.written.specs.Boxes.{up_to, under};
 ghost use Rattle.metric.specs.Edges.{edge_of};
-ghost use Rattle.trees.specs.Lent.{treesOf};
+ghost use Rattle.trees.specs.Lent.{trees_of};
 ghost use Rattle.joincounts.specs.Told.{CountsTold};
 
 use answer::{Answer, answered, refused};
@@ -20,7 +20,7 @@ fn counts<'a>(
     ritems: &[u32],
     rcoords: &[f64],
 ) -> Answer
-    ensures { CountsTold (treesOf k lstarts.now lstems.now litems.now lcoords.now rstarts.now rstems.now ritems.now rcoords.now) (edge_of under) radius result }
+    ensures { CountsTold (trees_of k lstarts.now lstems.now litems.now lcoords.now rstarts.now rstems.now ritems.now rcoords.now) (edge_of under) radius result }
 {
     let bad = trees::refusal(
         k, lstarts, lstems, litems, lcoords, rstarts, rstems, ritems, rcoords,
@@ -53,7 +53,7 @@ pub fn counts_up_to<'a>(
     ritems: &[u32],
     rcoords: &[f64],
 ) -> Answer
-    ensures { CountsTold (treesOf k lstarts.now lstems.now litems.now lcoords.now rstarts.now rstems.now ritems.now rcoords.now) up_to radius result }
+    ensures { CountsTold (trees_of k lstarts.now lstems.now litems.now lcoords.now rstarts.now rstems.now ritems.now rcoords.now) up_to radius result }
 {
     counts(
         k, radius, false, lstarts, lstems, litems, lcoords, rstarts, rstems, ritems, rcoords,
@@ -73,7 +73,7 @@ pub fn counts_under<'a>(
     ritems: &[u32],
     rcoords: &[f64],
 ) -> Answer
-    ensures { CountsTold (treesOf k lstarts.now lstems.now litems.now lcoords.now rstarts.now rstems.now ritems.now rcoords.now) under radius result }
+    ensures { CountsTold (trees_of k lstarts.now lstems.now litems.now lcoords.now rstarts.now rstems.now ritems.now rcoords.now) under radius result }
 {
     counts(
         k, radius, true, lstarts, lstems, litems, lcoords, rstarts, rstems, ritems, rcoords,

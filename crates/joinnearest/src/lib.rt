@@ -1,7 +1,7 @@
 // For each left point the nearest right item, in left place order.
-ghost use Rattle.answer.specs.Rooms.{nearRoomsOf};
-ghost use Rattle.answer.specs.Told.{withNearRooms};
-ghost use Rattle.trees.specs.Lent.{treesOf};
+ghost use Rattle.answer.specs.Rooms.{near_rooms_of};
+ghost use Rattle.answer.specs.Told.{with_near_rooms};
+ghost use Rattle.trees.specs.Lent.{trees_of};
 ghost use Rattle.joinnearest.specs.Told.{NearestTold};
 
 use answer::rooms::{nearest_agree, nearest_fits};
@@ -21,7 +21,7 @@ pub fn nearest<'a>(
     items: &mut [u32],
     dists: &mut [f64],
 ) -> Answer
-    ensures { NearestTold (treesOf k lstarts.now lstems.now litems.now lcoords.now rstarts.now rstems.now ritems.now rcoords.now) (nearRoomsOf items.old dists.old) (withNearRooms result items.new dists.new) }
+    ensures { NearestTold (trees_of k lstarts.now lstems.now litems.now lcoords.now rstarts.now rstems.now ritems.now rcoords.now) (near_rooms_of items.old dists.old) (with_near_rooms result items.new dists.new) }
 {
     let bad = trees::refusal(
         k, lstarts, lstems, litems, lcoords, rstarts, rstems, ritems, rcoords,

@@ -2,8 +2,8 @@
 ghost use Rattle.written.specs.Boxes.{up_to, under};
 ghost use Rattle.metric.specs.Edges.{edge_of};
 ghost use Rattle.answer.specs.Rooms.{rooms_of};
-ghost use Rattle.answer.specs.Told.{withRooms};
-ghost use Rattle.trees.specs.Lent.{treesOf};
+ghost use Rattle.answer.specs.Told.{with_rooms};
+ghost use Rattle.trees.specs.Lent.{trees_of};
 ghost use Rattle.joinpairs.specs.Told.{PairsTold};
 
 use answer::rooms::{pairs_agree, pairs_number};
@@ -26,7 +26,7 @@ fn pairs<'a>(
     rout: &mut [u32],
     dout: &mut [f64],
 ) -> Answer
-    ensures { PairsTold (treesOf k lstarts.now lstems.now litems.now lcoords.now rstarts.now rstems.now ritems.now rcoords.now) (edge_of under) radius (rooms_of lout.old rout.old dout.old) (withRooms result lout.new rout.new dout.new) }
+    ensures { PairsTold (trees_of k lstarts.now lstems.now litems.now lcoords.now rstarts.now rstems.now ritems.now rcoords.now) (edge_of under) radius (rooms_of lout.old rout.old dout.old) (with_rooms result lout.new rout.new dout.new) }
 {
     let bad = trees::refusal(
         k, lstarts, lstems, litems, lcoords, rstarts, rstems, ritems, rcoords,
@@ -62,7 +62,7 @@ pub fn pairs_up_to<'a>(
     rout: &mut [u32],
     dout: &mut [f64],
 ) -> Answer
-    ensures { PairsTold (treesOf k lstarts.now lstems.now litems.now lcoords.now rstarts.now rstems.now ritems.now rcoords.now) up_to radius (rooms_of lout.old rout.old dout.old) (withRooms result lout.new rout.new dout.new) }
+    ensures { PairsTold (trees_of k lstarts.now lstems.now litems.now lcoords.now rstarts.now rstems.now ritems.now rcoords.now) up_to radius (rooms_of lout.old rout.old dout.old) (with_rooms result lout.new rout.new dout.new) }
 {
     pairs(
         k, radius, false, lstarts, lstems, litems, lcoords, rstarts, rstems, ritems, rcoords,
@@ -86,7 +86,7 @@ pub fn pairs_under<'a>(
     rout: &mut [u32],
     dout: &mut [f64],
 ) -> Answer
-    ensures { PairsTold (treesOf k lstarts.now lstems.now litems.now lcoords.now rstarts.now rstems.now ritems.now rcoords.now) under radius (rooms_of lout.old rout.old dout.old) (withRooms result lout.new rout.new dout.new) }
+    ensures { PairsTold (trees_of k lstarts.now lstems.now litems.now lcoords.now rstarts.now rstems.now ritems.now rcoords.now) under radius (rooms_of lout.old rout.old dout.old) (with_rooms result lout.new rout.new dout.new) }
 {
     pairs(
         k, radius, true, lstarts, lstems, litems, lcoords, rstarts, rstems, ritems, rcoords,

@@ -7,7 +7,7 @@ use native.Mathlib.Omega.{arith}
 use native.Mathlib.Numerals.{add-one}
 use lib.ListN.{length, length-append}
 use Rattle.written.specs.Places.{over}
-use Rattle.written.specs.Laws.Places.{over-split}
+use Rattle.written.specs.Laws.Places.{over_split}
 use Rattle.leaf.specs.Sums.{hits}
 
 pub one_at_most : (b : Bool) → cond b 1 0 ≤ 1
@@ -26,13 +26,13 @@ module _ (test : ℕ → Bool) where
   hits_next {n} {r} j before here = rw (add-one j) (ap₂ (λ (x y : ℕ). x + y) before here)
 
   -- as many as a list has that holds one element for each place that passes
-  pub hits-over : {X : Type 0} (g : ℕ → List X) (a n : ℕ) → ((j : ℕ) → j < n → length (g (a + j)) ≡ cond (test j) 1 0) → hits test n ≡ length (over g a n)
+  pub hits_over : {X : Type 0} (g : ℕ → List X) (a n : ℕ) → ((j : ℕ) → j < n → length (g (a + j)) ≡ cond (test j) 1 0) → hits test n ≡ length (over g a n)
   unfolding hits
-  hits-over g a zero e = refl
-  hits-over g a (suc n) e =
+  hits_over g a zero e = refl
+  hits_over g a (suc n) e =
       let last : length (g (a + n)) ≡ cond (test n) 1 0 = e n (omega arith) in
-      let before : hits test n ≡ length (over g a n) = hits-over g a n (λ j l. e j (omega arith)) in
-      let all : over g a (suc n) ≡ over g a n ++ over g (a + n) 1 = ap (over g a) (sym (add-one n)) ∙ over-split g a n 1 in
+      let before : hits test n ≡ length (over g a n) = hits_over g a n (λ j l. e j (omega arith)) in
+      let all : over g a (suc n) ≡ over g a n ++ over g (a + n) 1 = ap (over g a) (sym (add-one n)) ∙ over_split g a n 1 in
       rw all (simp length-append (omega arith))
 
 -- ---- a list counted part by part: what is left of it

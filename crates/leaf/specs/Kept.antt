@@ -1,7 +1,7 @@
 -- What the join keeps of a point against a tile, of two tiles, of a tile against a leaf, and of two leaves (document 01: left tiles, within each the right tiles, then left points, then right points). Assumes nothing.
 use Rattle.std.specs.Prelude.{List, Bool, ℕ, ◌+◌, ◌-◌, ◌^◌, ◌≤◌, length, Float}
 use Rattle.written.specs.Places.{over, cross}
-use Rattle.written.specs.Tiles.{tiles, each, byTiles}
+use Rattle.written.specs.Tiles.{tiles, each, by_tiles}
 use Rattle.written.specs.RadiusWalk.{Found, keep}
 use Rattle.metric.specs.Edges.{edge_of}
 use Rattle.leaf.specs.Lent.{join_of, stretch}
@@ -12,19 +12,19 @@ keeps K radius under litems lcoords ritems rcoords = keep (join_of K litems lcoo
 
 module _ (f : ℕ → ℕ → List Found) where
   -- the left place p, the right places from a up to e
-  abbrev pub ofPoint : ℕ → ℕ → ℕ → List Found
-  ofPoint p a e = over (f p) a (e - a)
+  abbrev pub of_point : ℕ → ℕ → ℕ → List Found
+  of_point p a e = over (f p) a (e - a)
 
   -- left places from la up to le, right places from ra up to re, each a tile
-  abbrev pub ofTilePair : ℕ → ℕ → ℕ → ℕ → List Found
-  ofTilePair la le ra re = cross f (stretch la le) (stretch ra re)
+  abbrev pub of_tile_pair : ℕ → ℕ → ℕ → ℕ → List Found
+  of_tile_pair la le ra re = cross f (stretch la le) (stretch ra re)
 
   -- a left tile and the tiles of a right leaf
-  abbrev pub ofTileLeaf : ℕ → ℕ → ℕ → ℕ → List Found
-  ofTileLeaf la le rs rend = each (λ y. cross f (stretch la le) y) (tiles (stretch rs rend))
+  abbrev pub of_tile_leaf : ℕ → ℕ → ℕ → ℕ → List Found
+  of_tile_leaf la le rs rend = each (λ y. cross f (stretch la le) y) (tiles (stretch rs rend))
 
-  abbrev pub ofLeaves : ℕ → ℕ → ℕ → ℕ → List Found
-  ofLeaves ls lend rs rend = byTiles f (stretch ls lend) (stretch rs rend)
+  abbrev pub of_leaves : ℕ → ℕ → ℕ → ℕ → List Found
+  of_leaves ls lend rs rend = by_tiles f (stretch ls lend) (stretch rs rend)
 
 -- with those found before, they can be counted
 abbrev pub Countable : ℕ → List Found → Type 0

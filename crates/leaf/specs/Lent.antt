@@ -23,8 +23,8 @@ pub record Stretch (K : ℕ) (items : List ℕ) (coords : List Float) (from to :
   pub whole : length coords ≡ K * length items
 
 pub record LeafPair (K : ℕ) (litems : List ℕ) (lcoords : List Float) (ls lend : ℕ) (ritems : List ℕ) (rcoords : List Float) (rs rend : ℕ) : Type 0 where
-  pub some-axes : 0 < K
-  pub few-axes : K ≤ 4
+  pub some_axes : 0 < K
+  pub few_axes : K ≤ 4
   pub left : Stretch K litems lcoords ls lend
   pub right : Stretch K ritems rcoords rs rend
 

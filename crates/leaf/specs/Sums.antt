@@ -4,7 +4,7 @@ use Rattle.std.specs.Float.{nan, binary64}
 use Rattle.std.specs.Float.Ieee.{add}
 use Rattle.rounding.specs.Distance.{zero₊, dist1, distance}
 use Rattle.written.specs.Boxes.{Edge, passes}
-use Rattle.metric.specs.Lent.{HoldsPlace, pointAt}
+use Rattle.metric.specs.Lent.{HoldsPlace, point_at}
 
 -- the first n numbers of the row are f 0, f 1, ..
 abbrev pub Holds : List Float → ℕ → (ℕ → Float) → Type 0
@@ -16,7 +16,7 @@ grown sum q x = add binary64 sum (dist1 binary64 q x)
 
 -- over the first k axes: the place p of one tree, and the j-th place from a on of the other
 abbrev pub sum_to : (pcoords : List Float) → (pn p : ℕ) → (coords : List Float) → (n a : ℕ) → (k j : ℕ) → Float
-sum_to pcoords pn p coords n a k j = distance binary64 (pointAt pcoords pn p) (pointAt coords n (a + j)) k
+sum_to pcoords pn p coords n a k j = distance binary64 (point_at pcoords pn p) (point_at coords n (a + j)) k
 
 -- with one axis there are no sums to begin with: they are 0, and stay so
 abbrev pub Fresh : ℕ → List Float → Type 0
@@ -32,10 +32,10 @@ pub record TileOf (K : ℕ) (coords : List Float) (n a e : ℕ) : Type 0 where
 
 -- a point, a tile, and sums to work in
 pub record PointTile (K : ℕ) (sums pcoords : List Float) (pn p : ℕ) (coords : List Float) (n a e : ℕ) : Type 0 where
-  pub some-axes : 0 < K
-  pub few-axes : K ≤ 4
+  pub some_axes : 0 < K
+  pub few_axes : K ≤ 4
   pub point : HoldsPlace K pcoords pn p
-  pub point-small : pn ≤ 65536
+  pub point_small : pn ≤ 65536
   pub tile : TileOf K coords n a e
   pub fresh : Fresh K sums
 

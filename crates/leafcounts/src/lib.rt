@@ -3,7 +3,7 @@ ghost use Rattle.std.specs.Prelude.{◌≡◌, ◌≤◌, length};
 ghost use Rattle.metric.specs.Edges.{edge_of};
 ghost use Rattle.leaf.specs.Lent.{LeafPair, TilePair};
 ghost use Rattle.leaf.specs.Sums.{Fresh, PointTile, reached, passing as passing_of, hits};
-ghost use Rattle.leaf.specs.Kept.{keeps, ofPoint, ofTilePair, ofTileLeaf, ofLeaves, Countable};
+ghost use Rattle.leaf.specs.Kept.{keeps, of_point, of_tile_pair, of_tile_leaf, of_leaves, Countable};
 
 use leaf::axes::first_axes;
 use leaf::passes;
@@ -37,7 +37,7 @@ fn point_count(
     sums: &mut [f64; 32],
 ) -> u64
     requires { PointTile k sums.old lcoords.now (length litems.now) p rcoords.now (length ritems.now) ra re }
-    ensures value { result ≡ length (ofPoint (keeps k radius under litems.now lcoords.now ritems.now rcoords.now) p ra re) }
+    ensures value { result ≡ length (of_point (keeps k radius under litems.now lcoords.now ritems.now rcoords.now) p ra re) }
     ensures fresh { Fresh k sums.new }
 {
     let ln = litems.len();
@@ -69,8 +69,8 @@ fn tile_counts(
     re: usize,
 ) -> u64
     requires tile_pair { TilePair k litems.now lcoords.now la le ritems.now rcoords.now ra re }
-    requires countable { Countable 0 (ofTilePair (keeps k radius under litems.now lcoords.now ritems.now rcoords.now) la le ra re) }
-    ensures { result ≡ length (ofTilePair (keeps k radius under litems.now lcoords.now ritems.now rcoords.now) la le ra re) }
+    requires countable { Countable 0 (of_tile_pair (keeps k radius under litems.now lcoords.now ritems.now rcoords.now) la le ra re) }
+    ensures { result ≡ length (of_tile_pair (keeps k radius under litems.now lcoords.now ritems.now rcoords.now) la le ra re) }
 {
     let mut sums = [0.0; 32];
     let mut n = 0;
@@ -100,8 +100,8 @@ fn tile_leaf_counts(
     rend: usize,
 ) -> u64
     requires leaf_pair { LeafPair k litems.now lcoords.now la le ritems.now rcoords.now rs rend }
-    requires countable { Countable 0 (ofTileLeaf (keeps k radius under litems.now lcoords.now ritems.now rcoords.now) la le rs rend) }
-    ensures { result ≡ length (ofTileLeaf (keeps k radius under litems.now lcoords.now ritems.now rcoords.now) la le rs rend) }
+    requires countable { Countable 0 (of_tile_leaf (keeps k radius under litems.now lcoords.now ritems.now rcoords.now) la le rs rend) }
+    ensures { result ≡ length (of_tile_leaf (keeps k radius under litems.now lcoords.now ritems.now rcoords.now) la le rs rend) }
 {
     let mut n = 0;
     let mut ra = rs;
@@ -131,7 +131,7 @@ pub fn leaf_counts(
     rend: usize,
 ) -> u64
     requires { LeafPair k litems.now lcoords.now ls lend ritems.now rcoords.now rs rend }
-    ensures { result ≡ length (ofLeaves (keeps k radius under litems.now lcoords.now ritems.now rcoords.now) ls lend rs rend) }
+    ensures { result ≡ length (of_leaves (keeps k radius under litems.now lcoords.now ritems.now rcoords.now) ls lend rs rend) }
 {
     let mut n = 0;
     let mut la = ls;

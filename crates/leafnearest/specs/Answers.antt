@@ -3,7 +3,7 @@ use Rattle.std.specs.Prelude.{◌≡◌, List, [], ◌∷◌, Bool, ℕ, ◌-◌
 use Rattle.std.specs.Float.{nan}
 use Rattle.std.specs.Float.Ieee.{lt}
 use Rattle.written.specs.Boxes.{Trees}
-use Rattle.written.specs.Nearest.{Neighbour, nearer, improve, atEach, offer}
+use Rattle.written.specs.Nearest.{Neighbour, nearer, improve, at_each, offer}
 
 abbrev pub answers : List ℕ → List Float → List Neighbour
 answers [] distances = []
@@ -20,8 +20,8 @@ closer new old i = lt (new i) (get_or old i nan)
 
 -- one right item at these distances, against each answer of a tile
 abbrev pub offered : (ℕ → Float) → (item : ℕ) → List Neighbour → List Neighbour
-offered new item = atEach (λ i old. nearer (record { item = item; distance = new i }) old) 0
+offered new item = at_each (λ i old. nearer (record { item = item; distance = new i }) old) 0
 
 -- the answers of the left places from la on, each against the right places from rs up to rend, in place order
 abbrev pub improved : Trees → (la rs rend : ℕ) → List Neighbour → List Neighbour
-improved j la rs rend = atEach (λ p. improve (offer j p) rs (rend - rs)) la
+improved j la rs rend = at_each (λ p. improve (offer j p) rs (rend - rs)) la

@@ -8,7 +8,7 @@ use lib.Ieee.{Float}
 use Rattle.written.specs.RadiusWalk.{Found}
 use Rattle.leaf.specs.Kept.{Countable}
 use Rattle.rooms.specs.Rooms.{Filling, filling, puts, SameRooms}
-use Rattle.rooms.specs.Stored.{puts-append, puts-found}
+use Rattle.rooms.specs.Stored.{puts_append, puts_found}
 
 -- Of the list `all` there is `rest` to store, n being found so far; it can be counted, and the rooms are as long as they were.
 pub record Remaining (found : ℕ) (lout₀ rout₀ : List ℕ) (dout₀ : List Float) (all : List Found) (n : ℕ) (lout rout : List ℕ) (dout : List Float) (rest : List Found) : Type 0 where
@@ -29,24 +29,24 @@ module _ {found : ℕ} {lout₀ rout₀ : List ℕ} {dout₀ : List Float} {all 
 
   module _ {l : List Found} (r : Remaining found lout₀ rout₀ dout₀ all n lout rout dout l) (first rest : List Found) (e : l ≡ first ++ rest) where
     -- the next part can be counted
-    pub next-countable : Countable n first
-    next-countable = omega (arith, r.countable, ap length e ∙ length-append first rest)
+    pub next_countable : Countable n first
+    next_countable = omega (arith, r.countable, ap length e ∙ length-append first rest)
 
     -- and once it is stored, the parts after it are left
-    pub next-left : {n' : ℕ} {lout' rout' : List ℕ} {dout' : List Float}
+    pub next_left : {n' : ℕ} {lout' rout' : List ℕ} {dout' : List Float}
         → length lout' ≡ length lout
         → length rout' ≡ length rout
         → length dout' ≡ length dout
         → filling n' lout' rout' dout' ≡ puts (filling n lout rout dout) first
         → Remaining found lout₀ rout₀ dout₀ all n' lout' rout' dout' rest
-    next-left {n'} {lout'} {rout'} {dout'} x y z step =
+    next_left {n'} {lout'} {rout'} {dout'} x y z step =
         let s = filling n lout rout dout in
-        let more : n' ≡ n + length first = ap (λ (t : Filling). t.found) step ∙ puts-found s first in
+        let more : n' ≡ n + length first = ap (λ (t : Filling). t.found) step ∙ puts_found s first in
         record {
           lefts = x ∙ r.lefts;
           rights = y ∙ r.rights;
           distances = z ∙ r.distances;
           same = (omega (arith, r.same), omega (arith, r.same));
           countable = omega (arith, r.countable, ap length e ∙ length-append first rest);
-          stored = ap (λ (t : Filling). puts t rest) step ∙ sym (puts-append s first rest) ∙ ap (puts s) (sym e) ∙ r.stored;
+          stored = ap (λ (t : Filling). puts t rest) step ∙ sym (puts_append s first rest) ∙ ap (puts s) (sym e) ∙ r.stored;
         }

@@ -1,7 +1,7 @@
 // The pairs of two leaves that pass, stored as far as there is room: left tiles of at most 32 places, within each the right tiles, then left points, then right points (kiddo: leaf.rs).
 ghost use Rattle.std.specs.Prelude.{◌≡◌};
 ghost use Rattle.leaf.specs.Lent.{LeafPair, TilePair};
-ghost use Rattle.leaf.specs.Kept.{keeps, ofTilePair, ofTileLeaf, ofLeaves, Countable};
+ghost use Rattle.leaf.specs.Kept.{keeps, of_tile_pair, of_tile_leaf, of_leaves, Countable};
 ghost use Rattle.rooms.specs.Rooms.{filling, puts, SameRooms};
 
 mod point;
@@ -28,8 +28,8 @@ fn tile_pair(
 ) -> u64
     requires tile_pair { TilePair k litems.now lcoords.now la le ritems.now rcoords.now ra re }
     requires same_rooms { SameRooms lout.old rout.old dout.old }
-    requires countable { Countable found (ofTilePair (keeps k radius under litems.now lcoords.now ritems.now rcoords.now) la le ra re) }
-    ensures { filling result lout.new rout.new dout.new ≡ puts (filling found lout.old rout.old dout.old) (ofTilePair (keeps k radius under litems.now lcoords.now ritems.now rcoords.now) la le ra re) }
+    requires countable { Countable found (of_tile_pair (keeps k radius under litems.now lcoords.now ritems.now rcoords.now) la le ra re) }
+    ensures { filling result lout.new rout.new dout.new ≡ puts (filling found lout.old rout.old dout.old) (of_tile_pair (keeps k radius under litems.now lcoords.now ritems.now rcoords.now) la le ra re) }
 {
     let mut sums = [0.0; 32];
     let mut dists = [0.0; 32];
@@ -81,8 +81,8 @@ fn tile_leaf(
 ) -> u64
     requires leaf_pair { LeafPair k litems.now lcoords.now la le ritems.now rcoords.now rs rend }
     requires same_rooms { SameRooms lout.old rout.old dout.old }
-    requires countable { Countable found (ofTileLeaf (keeps k radius under litems.now lcoords.now ritems.now rcoords.now) la le rs rend) }
-    ensures { filling result lout.new rout.new dout.new ≡ puts (filling found lout.old rout.old dout.old) (ofTileLeaf (keeps k radius under litems.now lcoords.now ritems.now rcoords.now) la le rs rend) }
+    requires countable { Countable found (of_tile_leaf (keeps k radius under litems.now lcoords.now ritems.now rcoords.now) la le rs rend) }
+    ensures { filling result lout.new rout.new dout.new ≡ puts (filling found lout.old rout.old dout.old) (of_tile_leaf (keeps k radius under litems.now lcoords.now ritems.now rcoords.now) la le rs rend) }
 {
     let mut n = found;
     let mut ra = rs;
@@ -117,8 +117,8 @@ pub fn leaf_pairs(
 ) -> u64
     requires leaf_pair { LeafPair k litems.now lcoords.now ls lend ritems.now rcoords.now rs rend }
     requires same_rooms { SameRooms lout.old rout.old dout.old }
-    requires countable { Countable found (ofLeaves (keeps k radius under litems.now lcoords.now ritems.now rcoords.now) ls lend rs rend) }
-    ensures { filling result lout.new rout.new dout.new ≡ puts (filling found lout.old rout.old dout.old) (ofLeaves (keeps k radius under litems.now lcoords.now ritems.now rcoords.now) ls lend rs rend) }
+    requires countable { Countable found (of_leaves (keeps k radius under litems.now lcoords.now ritems.now rcoords.now) ls lend rs rend) }
+    ensures { filling result lout.new rout.new dout.new ≡ puts (filling found lout.old rout.old dout.old) (of_leaves (keeps k radius under litems.now lcoords.now ritems.now rcoords.now) ls lend rs rend) }
 {
     let mut n = found;
     let mut la = ls;

@@ -2,7 +2,7 @@
 ghost use Rattle.std.specs.Prelude.{◌≡◌, ◌≤◌, length, take};
 ghost use Rattle.metric.specs.Edges.{edge_of};
 ghost use Rattle.leaf.specs.Sums.{Holds, row, reached, Fresh, PointTile, passing, hits};
-ghost use Rattle.leaf.specs.Kept.{keeps, ofPoint, Countable};
+ghost use Rattle.leaf.specs.Kept.{keeps, of_point, Countable};
 ghost use Rattle.rooms.specs.Rooms.{filling, puts, SameRooms};
 ghost use Rattle.rooms.specs.Emitted.{places_of};
 
@@ -70,8 +70,8 @@ pub fn point_tile(
 ) -> u64
     requires point_tile { PointTile k sums.old lcoords.now (length litems.now) p rcoords.now (length ritems.now) ra re }
     requires same_rooms { SameRooms lout.old rout.old dout.old }
-    requires countable { Countable found (ofPoint (keeps k radius under litems.now lcoords.now ritems.now rcoords.now) p ra re) }
-    ensures dout_after { filling result lout.new rout.new dout.new ≡ puts (filling found lout.old rout.old dout.old) (ofPoint (keeps k radius under litems.now lcoords.now ritems.now rcoords.now) p ra re) }
+    requires countable { Countable found (of_point (keeps k radius under litems.now lcoords.now ritems.now rcoords.now) p ra re) }
+    ensures dout_after { filling result lout.new rout.new dout.new ≡ puts (filling found lout.old rout.old dout.old) (of_point (keeps k radius under litems.now lcoords.now ritems.now rcoords.now) p ra re) }
     ensures fresh { Fresh k sums.new }
 {
     let ln = litems.len();

@@ -2,5 +2,5 @@
 use Rattle.std.specs.Prelude.{List, Float}
 use Rattle.written.specs.Boxes.{Boxes}
 
-abbrev pub boxesOf : List Float → List Float → Boxes
-boxesOf min max = record { mins = min; maxs = max }
+abbrev pub boxes_of : List Float → List Float → Boxes
+boxes_of min max = record { mins = min; maxs = max }

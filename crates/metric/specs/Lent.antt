@@ -9,5 +9,5 @@ pub record HoldsPlace (K : ℕ) (coords : List Float) (n p : ℕ) : Type 0 where
   pub inside : p < n
 
 -- its coordinates, by axis
-abbrev pub pointAt : List Float → ℕ → ℕ → Row
-pointAt coords n p d = get_or coords (d * n + p) nan
+abbrev pub point_at : List Float → ℕ → ℕ → Row
+point_at coords n p d = get_or coords (d * n + p) nan

@@ -4,11 +4,11 @@ ghost use Rattle.std.specs.Float.{binary64};
 ghost use Rattle.std.specs.Float.Ieee.Scale.{finite as finiteNumber};
 ghost use Rattle.rounding.specs.Distance.{dist1, distance as distanceOfRows};
 ghost use Rattle.rounding.specs.Bounds.{gap1, reach1, bounded as boundedSides};
-ghost use Rattle.written.specs.Boxes.{everywhere as everywhereBoxes, loweredTo, raisedTo, lower as lowerBound, upper as upperBound, passes, beyond as beyondRadius};
+ghost use Rattle.written.specs.Boxes.{everywhere as everywhereBoxes, lowered_to, raised_to, lower as lowerBound, upper as upperBound, passes, beyond as beyondRadius};
 ghost use Rattle.written.specs.Check.{is_top};
 ghost use Rattle.metric.specs.Edges.{edge_of};
-ghost use Rattle.metric.specs.Flat.{boxesOf};
-ghost use Rattle.metric.specs.Lent.{HoldsPlace, pointAt};
+ghost use Rattle.metric.specs.Flat.{boxes_of};
+ghost use Rattle.metric.specs.Lent.{HoldsPlace, point_at};
 
 // One axis of a distance (the source's `dist1`).
 pub fn square(a: f64, b: f64) -> f64
@@ -29,7 +29,7 @@ pub fn distance(
     q: usize,
 ) -> f64
     requires { HoldsPlace k lcoords.now ln p × HoldsPlace k rcoords.now rn q }
-    ensures { result ≡ distanceOfRows binary64 (pointAt lcoords.now ln p) (pointAt rcoords.now rn q) k }
+    ensures { result ≡ distanceOfRows binary64 (point_at lcoords.now ln p) (point_at rcoords.now rn q) k }
 {
     let mut sum = 0.0;
     let mut d = 0;
@@ -70,7 +70,7 @@ pub struct Boxes {
 impl Boxes {
     // -inf and +inf on each axis of each side.
     pub fn everywhere() -> Self
-        ensures { boxesOf result.min result.max ≡ everywhereBoxes }
+        ensures { boxes_of result.min result.max ≡ everywhereBoxes }
     {
         let min = [-1.0 / 0.0; 8];
         let max = [1.0 / 0.0; 8];
@@ -80,13 +80,13 @@ impl Boxes {
 
 // A side's max lowered to the pivot, never assigned: the pivot may lie outside the box.
 pub fn lowered(max: f64, pivot: f64) -> f64
-    ensures { result ≡ loweredTo pivot max }
+    ensures { result ≡ lowered_to pivot max }
 {
     if pivot < max { pivot } else { max }
 }
 
 pub fn raised(min: f64, pivot: f64) -> f64
-    ensures { result ≡ raisedTo pivot min }
+    ensures { result ≡ raised_to pivot min }
 {
     if pivot > min { pivot } else { min }
 }
@@ -107,7 +107,7 @@ fn gap(lmin: f64, lmax: f64, rmin: f64, rmax: f64) -> f64
 // The box lower bound: no two points of the boxes are nearer.
 pub fn lower<'a>(min: &'a [f64; 8], max: &'a [f64; 8], k: usize) -> f64
     requires { k ≤ 4 }
-    ensures { result ≡ lowerBound k (boxesOf min.now max.now) }
+    ensures { result ≡ lowerBound k (boxes_of min.now max.now) }
 {
     let mut sum = 0.0;
     let mut d = 0;
@@ -146,7 +146,7 @@ fn bounded(lmin: f64, lmax: f64, rmin: f64, rmax: f64) -> bool
 // The upper bound: no two points of the boxes are farther; +inf unless all sides are finite.
 pub fn upper<'a>(min: &'a [f64; 8], max: &'a [f64; 8], k: usize) -> f64
     requires { k ≤ 4 }
-    ensures { result ≡ upperBound k (boxesOf min.now max.now) }
+    ensures { result ≡ upperBound k (boxes_of min.now max.now) }
 {
     let mut sum = 0.0;
     let mut d = 0;

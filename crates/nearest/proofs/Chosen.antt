@@ -4,40 +4,40 @@ use mathlib.Core.Bool.{Bool, true, false, ◌&&◌, cond}
 use mathlib.Core.List.{List}
 use Prim.Native.Nat.{ℕ}
 use native.Mathlib.Omega.{arith}
-use Rattle.written.specs.LentTree.{isLeaf}
+use Rattle.written.specs.LentTree.{is_leaf}
 use Rattle.written.specs.Boxes.{Trees}
 use Rattle.written.specs.Visits.{ends}
-use Rattle.written.specs.NodePairs.{NodePair, splitsRight, visit}
-use Rattle.written.specs.Nearest.{Neighbour, nearRuledOut, nearStep}
+use Rattle.written.specs.NodePairs.{NodePair, splits_right, visit}
+use Rattle.written.specs.Nearest.{Neighbour, near_ruled_out, near_step}
 use Rattle.cursor.specs.Held.{side_of}
-use Rattle.steps.proofs.Visiting.{SplitsOn, side-picked}
+use Rattle.steps.proofs.Visiting.{SplitsOn, side_picked}
 use Rattle.nearvisit.specs.declared.moves.Fate.{Fate as Held}
 use Rattle.nearvisit.specs.declared.moves.Fate.TheVariants.{Measured, RuledOut}
 use Rattle.nearvisit.specs.declared.moves.Move.TheVariants.{End, Split}
-use Rattle.nearvisit.specs.Moves.{fateOf, moveBy}
+use Rattle.nearvisit.specs.Moves.{fate_of, move_by}
 
 module _ (j : Trees) (c : List Neighbour) (s : NodePair) where
-  abbrev atLeaves : Bool
-  atLeaves = isLeaf s.left && isLeaf s.right
+  abbrev at_leaves : Bool
+  at_leaves = is_leaf s.left && is_leaf s.right
 
-  step_is : nearStep j c s ≡ visit j (nearRuledOut j c s) false s
-  unfolding nearStep
+  step_is : near_step j c s ≡ visit j (near_ruled_out j c s) false s
+  unfolding near_step
   step_is = refl
 
-  pub chosen-end : (f : Held) → End f ≡ moveBy (nearRuledOut j c s) atLeaves (splitsRight s) → nearStep j c s ≡ ends (fateOf f)
-  chosen-end f e = step_is ∙ go (nearRuledOut j c s) atLeaves refl e
+  pub chosen_end : (f : Held) → End f ≡ move_by (near_ruled_out j c s) at_leaves (splits_right s) → near_step j c s ≡ ends (fate_of f)
+  chosen_end f e = step_is ∙ go (near_ruled_out j c s) at_leaves refl e
     where
-      go : (out leaf : Bool) → atLeaves ≡ leaf → End f ≡ moveBy out leaf (splitsRight s) → visit j out false s ≡ ends (fateOf f)
-      go true leaf l e = let k : RuledOut ≡ f = cc in ap (λ (x : Held). ends (fateOf x)) k
-      go false true l e = let k : Measured ≡ f = cc in rw l (ap (λ (x : Held). ends (fateOf x)) k)
+      go : (out leaf : Bool) → at_leaves ≡ leaf → End f ≡ move_by out leaf (splits_right s) → visit j out false s ≡ ends (fate_of f)
+      go true leaf l e = let k : RuledOut ≡ f = cc in ap (λ (x : Held). ends (fate_of x)) k
+      go false true l e = let k : Measured ≡ f = cc in rw l (ap (λ (x : Held). ends (fate_of x)) k)
       go false false l e = let z : ◌≡◌ {A = ℕ} 0 1 = cc in absurd (omega arith)
 
-  pub chosen-split : (side : ℕ) → Split side ≡ moveBy (nearRuledOut j c s) atLeaves (splitsRight s) → SplitsOn j s (nearStep j c s) side
-  chosen-split side e = go (nearRuledOut j c s) refl atLeaves refl e
+  pub chosen_split : (side : ℕ) → Split side ≡ move_by (near_ruled_out j c s) at_leaves (splits_right s) → SplitsOn j s (near_step j c s) side
+  chosen_split side e = go (near_ruled_out j c s) refl at_leaves refl e
     where
-      go : (out : Bool) → nearRuledOut j c s ≡ out → (leaf : Bool) → atLeaves ≡ leaf → Split side ≡ moveBy out leaf (splitsRight s) → SplitsOn j s (nearStep j c s) side
+      go : (out : Bool) → near_ruled_out j c s ≡ out → (leaf : Bool) → at_leaves ≡ leaf → Split side ≡ move_by out leaf (splits_right s) → SplitsOn j s (near_step j c s) side
       go true p leaf l e = let z : ◌≡◌ {A = ℕ} 0 1 = cc in absurd (omega arith)
       go false p true l e = let z : ◌≡◌ {A = ℕ} 0 1 = cc in absurd (omega arith)
       go false p false l e =
-          let k : side ≡ cond (splitsRight s) 1 0 = cc in
-          record { splits-so = step_is ∙ rw (p, l) refl; on-side = ap side_of k ∙ side-picked (splitsRight s); no-leaves = l }
+          let k : side ≡ cond (splits_right s) 1 0 = cc in
+          record { splits_so = step_is ∙ rw (p, l) refl; side_is = ap side_of k ∙ side_picked (splits_right s); no_leaves = l }

@@ -2,20 +2,20 @@
 use Rattle.std.specs.Prelude.{List, ℕ, length, Float}
 use Rattle.written.specs.Boxes.{Trees}
 use Rattle.written.specs.Nearest.{nearest}
-use Rattle.written.specs.Totals.{Totals, nearTotals}
-use Rattle.written.specs.Answers.{NearRooms, nearStored}
+use Rattle.written.specs.Totals.{Totals, near_totals}
+use Rattle.written.specs.Answers.{NearRooms, near_stored}
 use Rattle.steps.specs.declared.tally.Tally.{Tally}
-use Rattle.steps.specs.Counted.{totalsHeld}
-use Rattle.answer.specs.Rooms.{nearRoomsOf}
+use Rattle.steps.specs.Counted.{totals_held}
+use Rattle.answer.specs.Rooms.{near_rooms_of}
 
 pub record Outcome : Type 0 where
   pub written : ℕ
   pub rooms : NearRooms
   pub totals : Totals
 
-abbrev pub outcomeOf : Tally → (items : List ℕ) → (distances : List Float) → Outcome
-outcomeOf t items distances = record { written = t.found; rooms = nearRoomsOf items distances; totals = totalsHeld t }
+abbrev pub outcome_of : Tally → (items : List ℕ) → (distances : List Float) → Outcome
+outcome_of t items distances = record { written = t.found; rooms = near_rooms_of items distances; totals = totals_held t }
 
 -- an answer for each left place, none if a tree holds no points; beyond them the rooms stay untouched
 abbrev pub executed : Trees → NearRooms → Outcome
-executed j b = record { written = length (nearest j); rooms = nearStored (nearest j) b; totals = nearTotals j }
+executed j b = record { written = length (nearest j); rooms = near_stored (nearest j) b; totals = near_totals j }

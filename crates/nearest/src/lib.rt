@@ -1,13 +1,13 @@
 // All-nearest over two accepted trees: for each left place the nearest right item, in left place order (kiddo: nearest.rs).
 ghost use Rattle.std.specs.Prelude.{◌≡◌, true, false, length, replicate};
-ghost use Rattle.written.specs.Nearest.{unset, noPoints};
-ghost use Rattle.written.specs.Answers.{Accepts, nearRoomsAgree, nearRoomOk};
+ghost use Rattle.written.specs.Nearest.{unset, no_points};
+ghost use Rattle.written.specs.Answers.{Accepts, near_rooms_agree, near_room_ok};
 ghost use Rattle.leafnearest.specs.Answers.{answers, Answering};
-ghost use Rattle.trees.specs.Lent.{treesOf};
+ghost use Rattle.trees.specs.Lent.{trees_of};
 ghost use Rattle.nearvisit.specs.Held.{held_of};
-ghost use Rattle.answer.specs.Rooms.{nearRoomsOf};
+ghost use Rattle.answer.specs.Rooms.{near_rooms_of};
 ghost use Rattle.nearest.specs.Walked.{walked};
-ghost use Rattle.nearest.specs.Executed.{outcomeOf, executed};
+ghost use Rattle.nearest.specs.Executed.{outcome_of, executed};
 
 use held::beginning::clear;
 use metric::Boxes;
@@ -32,10 +32,10 @@ fn walk<'a>(
     items: &mut [u32],
     dists: &mut [f64],
 ) -> Tally
-    requires accepts { Accepts (treesOf k lstarts.now lstems.now litems.now lcoords.now rstarts.now rstems.now ritems.now rcoords.now) }
-    requires rcoords_value { noPoints (treesOf k lstarts.now lstems.now litems.now lcoords.now rstarts.now rstems.now ritems.now rcoords.now) ≡ false }
+    requires accepts { Accepts (trees_of k lstarts.now lstems.now litems.now lcoords.now rstarts.now rstems.now ritems.now rcoords.now) }
+    requires rcoords_value { no_points (trees_of k lstarts.now lstems.now litems.now lcoords.now rstarts.now rstems.now ritems.now rcoords.now) ≡ false }
     requires answering { Answering 0 (length litems.now) items.old dists.old × (answers items.old dists.old ≡ replicate (length litems.now) unset) }
-    ensures { held_of result items.new dists.new ≡ walked (treesOf k lstarts.now lstems.now litems.now lcoords.now rstarts.now rstems.now ritems.now rcoords.now) }
+    ensures { held_of result items.new dists.new ≡ walked (trees_of k lstarts.now lstems.now litems.now lcoords.now rstarts.now rstems.now ritems.now rcoords.now) }
 {
     let mut at = roots(lstarts, rstarts);
     let mut b = Boxes::everywhere();
@@ -155,9 +155,9 @@ pub fn execute<'a>(
     items: &mut [u32],
     dists: &mut [f64],
 ) -> Tally
-    requires accepts { Accepts (treesOf k lstarts.now lstems.now litems.now lcoords.now rstarts.now rstems.now ritems.now rcoords.now) }
-    requires dists_value { (nearRoomsAgree (nearRoomsOf items.old dists.old) ≡ true) × (nearRoomOk (treesOf k lstarts.now lstems.now litems.now lcoords.now rstarts.now rstems.now ritems.now rcoords.now) (nearRoomsOf items.old dists.old) ≡ true) }
-    ensures { outcomeOf result items.new dists.new ≡ executed (treesOf k lstarts.now lstems.now litems.now lcoords.now rstarts.now rstems.now ritems.now rcoords.now) (nearRoomsOf items.old dists.old) }
+    requires accepts { Accepts (trees_of k lstarts.now lstems.now litems.now lcoords.now rstarts.now rstems.now ritems.now rcoords.now) }
+    requires dists_value { (near_rooms_agree (near_rooms_of items.old dists.old) ≡ true) × (near_room_ok (trees_of k lstarts.now lstems.now litems.now lcoords.now rstarts.now rstems.now ritems.now rcoords.now) (near_rooms_of items.old dists.old) ≡ true) }
+    ensures { outcome_of result items.new dists.new ≡ executed (trees_of k lstarts.now lstems.now litems.now lcoords.now rstarts.now rstems.now ritems.now rcoords.now) (near_rooms_of items.old dists.old) }
 {
     let n = litems.len();
     if n == 0 {

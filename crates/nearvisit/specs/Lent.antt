@@ -7,10 +7,10 @@ use Rattle.trees.specs.Lent.{stemless}
 use Rattle.steps.specs.Standing.{Within}
 
 -- where only the axes and the left tree's starts play a part
-abbrev pub leftStarts : (K : ℕ) → (lstarts : List ℕ) → Trees
-leftStarts K lstarts = stemless K lstarts [] [] [] [] []
+abbrev pub left_starts : (K : ℕ) → (lstarts : List ℕ) → Trees
+left_starts K lstarts = stemless K lstarts [] [] [] [] []
 
 -- the distances of the left span can be read
 pub record HeldUnder (lstarts : List ℕ) (distances : List Float) (at : Nodes) : Type 0 where
-  pub left-within : Within lstarts (node_of at.left)
-  pub held-read : get_or lstarts at.left.end.0 0 ≤ length distances
+  pub left_within : Within lstarts (node_of at.left)
+  pub held_read : get_or lstarts at.left.end.0 0 ≤ length distances

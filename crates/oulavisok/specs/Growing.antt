@@ -5,7 +5,7 @@ use Rattle.std.proofs.Common.{sym, ◌∙◌, append-nil, arith, length-append, 
 use Rattle.std.proofs.Math.ListN.{length}
 use Rattle.std.proofs.lemmas.List.{take-append-le}
 use Rattle.written.specs.Answers.{Answer, stored}
-use Rattle.oulavisok.specs.Numbers.{numbersOf}
+use Rattle.oulavisok.specs.Numbers.{numbers_of}
 
 module _ (l buffer : List ℕ) where
   -- room for no more than there is: the first of them
@@ -14,9 +14,9 @@ module _ (l buffer : List ℕ) where
   first-that-fit h = rw (drop_of_length-le buffer {i = length l} h, append-nil) refl
 
   -- room for more: all of them, and beyond them the buffer as it was
-  pub rest-untouched : length l ≤ length buffer → stored l buffer ≡ l ++ drop (length l) buffer
+  pub rest_untouched : length l ≤ length buffer → stored l buffer ≡ l ++ drop (length l) buffer
   unfolding stored
-  rest-untouched h = rw (take_all (length buffer) l h) refl
+  rest_untouched h = rw (take_all (length buffer) l h) refl
 
 -- so a program built when there were fewer numbers goes on getting them, whatever is appended
 pub appended-unseen : (l more buffer : List ℕ) → length buffer ≤ length l → stored (l ++ more) buffer ≡ stored l buffer
@@ -25,7 +25,7 @@ appended-unseen l more buffer h =
 
 -- the six that the first version had
 abbrev pub firstSix : Answer → List ℕ
-firstSix a = a.side ∷ a.found ∷ a.totals.visits ∷ a.totals.measured ∷ a.totals.ruledOut ∷ a.totals.whole ∷ []
+firstSix a = a.side ∷ a.found ∷ a.totals.visits ∷ a.totals.measured ∷ a.totals.ruled_out ∷ a.totals.whole ∷ []
 
-pub six-stay : (a : Answer) (buffer : List ℕ) → length buffer ≡ 6 → stored (numbersOf a) buffer ≡ firstSix a
-six-stay a buffer h = first-that-fit (numbersOf a) buffer (omega arith) ∙ rw h refl
+pub six-stay : (a : Answer) (buffer : List ℕ) → length buffer ≡ 6 → stored (numbers_of a) buffer ≡ firstSix a
+six-stay a buffer h = first-that-fit (numbers_of a) buffer (omega arith) ∙ rw h refl

@@ -1,11 +1,11 @@
 // The joins for other languages. A slice is passed as pointer and length; the refusal's number is returned, and of the answer's other numbers as many are stored as `answer` has room for. No function demands anything.
 ghost use Rattle.std.specs.Prelude.{◌≡◌};
 ghost use Rattle.written.specs.Boxes.{up_to, under};
-ghost use Rattle.written.specs.Spacing.{radiusOf};
-ghost use Rattle.trees.specs.Lent.{treesOf};
-ghost use Rattle.answer.specs.Rooms.{rooms_of, nearRoomsOf};
+ghost use Rattle.written.specs.Spacing.{radius_of};
+ghost use Rattle.trees.specs.Lent.{trees_of};
+ghost use Rattle.answer.specs.Rooms.{rooms_of, near_rooms_of};
 ghost use Rattle.oulavisok.specs.Version.{version};
-ghost use Rattle.oulavisok.specs.Numbers.{PairsNumbers, CountsNumbers, NearestNumbers, withNumbers, withNumbersAndRooms, withNumbersAndNearRooms};
+ghost use Rattle.oulavisok.specs.Numbers.{PairsNumbers, CountsNumbers, NearestNumbers, with_numbers, with_numbers_and_rooms, with_numbers_and_near_rooms};
 
 use crate::telling::tell;
 
@@ -28,7 +28,7 @@ pub extern "C" fn oul_pairs_up_to<'a>(
     dout: &mut [f64],
     answer: &mut [u64],
 ) -> u32
-    ensures { PairsNumbers (treesOf k lstarts.now lstems.now litems.now lcoords.now rstarts.now rstems.now ritems.now rcoords.now) up_to radius (rooms_of lout.old rout.old dout.old) answer.old (withNumbersAndRooms result answer.new lout.new rout.new dout.new) }
+    ensures { PairsNumbers (trees_of k lstarts.now lstems.now litems.now lcoords.now rstarts.now rstems.now ritems.now rcoords.now) up_to radius (rooms_of lout.old rout.old dout.old) answer.old (with_numbers_and_rooms result answer.new lout.new rout.new dout.new) }
 {
     let a = join::pairs_up_to(
         k, radius, lstarts, lstems, litems, lcoords, rstarts, rstems, ritems, rcoords, &mut *lout,
@@ -54,7 +54,7 @@ pub extern "C" fn oul_pairs_under<'a>(
     dout: &mut [f64],
     answer: &mut [u64],
 ) -> u32
-    ensures { PairsNumbers (treesOf k lstarts.now lstems.now litems.now lcoords.now rstarts.now rstems.now ritems.now rcoords.now) under radius (rooms_of lout.old rout.old dout.old) answer.old (withNumbersAndRooms result answer.new lout.new rout.new dout.new) }
+    ensures { PairsNumbers (trees_of k lstarts.now lstems.now litems.now lcoords.now rstarts.now rstems.now ritems.now rcoords.now) under radius (rooms_of lout.old rout.old dout.old) answer.old (with_numbers_and_rooms result answer.new lout.new rout.new dout.new) }
 {
     let a = join::pairs_under(
         k, radius, lstarts, lstems, litems, lcoords, rstarts, rstems, ritems, rcoords, &mut *lout,
@@ -77,7 +77,7 @@ pub extern "C" fn oul_counts_up_to<'a>(
     rcoords: &[f64],
     answer: &mut [u64],
 ) -> u32
-    ensures { CountsNumbers (treesOf k lstarts.now lstems.now litems.now lcoords.now rstarts.now rstems.now ritems.now rcoords.now) up_to radius answer.old (withNumbers result answer.new) }
+    ensures { CountsNumbers (trees_of k lstarts.now lstems.now litems.now lcoords.now rstarts.now rstems.now ritems.now rcoords.now) up_to radius answer.old (with_numbers result answer.new) }
 {
     let a = join::counts_up_to(
         k, radius, lstarts, lstems, litems, lcoords, rstarts, rstems, ritems, rcoords,
@@ -99,7 +99,7 @@ pub extern "C" fn oul_counts_under<'a>(
     rcoords: &[f64],
     answer: &mut [u64],
 ) -> u32
-    ensures { CountsNumbers (treesOf k lstarts.now lstems.now litems.now lcoords.now rstarts.now rstems.now ritems.now rcoords.now) under radius answer.old (withNumbers result answer.new) }
+    ensures { CountsNumbers (trees_of k lstarts.now lstems.now litems.now lcoords.now rstarts.now rstems.now ritems.now rcoords.now) under radius answer.old (with_numbers result answer.new) }
 {
     let a = join::counts_under(
         k, radius, lstarts, lstems, litems, lcoords, rstarts, rstems, ritems, rcoords,
@@ -122,7 +122,7 @@ pub extern "C" fn oul_nearest<'a>(
     dists: &mut [f64],
     answer: &mut [u64],
 ) -> u32
-    ensures { NearestNumbers (treesOf k lstarts.now lstems.now litems.now lcoords.now rstarts.now rstems.now ritems.now rcoords.now) (nearRoomsOf items.old dists.old) answer.old (withNumbersAndNearRooms result answer.new items.new dists.new) }
+    ensures { NearestNumbers (trees_of k lstarts.now lstems.now litems.now lcoords.now rstarts.now rstems.now ritems.now rcoords.now) (near_rooms_of items.old dists.old) answer.old (with_numbers_and_near_rooms result answer.new items.new dists.new) }
 {
     let a = join::nearest(
         k,
@@ -142,7 +142,7 @@ pub extern "C" fn oul_nearest<'a>(
 
 #[unsafe(no_mangle)]
 pub extern "C" fn oul_radius_of(r: f64) -> f64
-    ensures { result ≡ radiusOf r }
+    ensures { result ≡ radius_of r }
 {
     join::radius_of(r)
 }

@@ -2,7 +2,7 @@
 ghost use Rattle.std.specs.Prelude.{◌≡◌, set};
 ghost use Rattle.written.specs.Answers.{stored};
 ghost use Rattle.answer.specs.Told.{answer_of};
-ghost use Rattle.oulavisok.specs.Numbers.{numbersOf};
+ghost use Rattle.oulavisok.specs.Numbers.{numbers_of};
 
 use join::Answer;
 
@@ -18,7 +18,7 @@ fn put(answer: &mut [u64], at: usize, n: u64)
 // The order of the numbers is a promise to programs built long ago: new ones only go to the end.
 pub fn tell(a: Answer, answer: &mut [u64]) -> u32
     ensures value { result ≡ a.number }
-    ensures answer_after { answer.new ≡ stored (numbersOf (answer_of a)) answer.old }
+    ensures answer_after { answer.new ≡ stored (numbers_of (answer_of a)) answer.old }
 {
     let t = a.totals;
     put(&mut *answer, 0, a.side as u64);

@@ -12,9 +12,9 @@ use Rattle.written.specs.Answers.{stored}
 use Rattle.printing.specs.Rows.{found, rows}
 
 -- what was stored whole stands in front
-pub take-stored : {X : Type 0} (l b : List X) → length l ≤ length b → take (length l) (stored l b) ≡ l
+pub take_stored : {X : Type 0} (l b : List X) → length l ≤ length b → take (length l) (stored l b) ≡ l
 unfolding stored
-take-stored l b h = rw (take_all (length b) l h) (take-append_seam l (drop (length l) b))
+take_stored l b h = rw (take_all (length b) l h) (take-append_seam l (drop (length l) b))
 
 -- what `get_or` answers past the end
 nowhere : Found

@@ -14,38 +14,38 @@ abbrev pub newline : List ℕ
 newline = 10 ∷ []
 
 -- `pairs`, `count`, `nearest`
-abbrev pub pairsWord : List ℕ
-pairsWord = 112 ∷ 97 ∷ 105 ∷ 114 ∷ 115 ∷ []
+abbrev pub pairs_word : List ℕ
+pairs_word = 112 ∷ 97 ∷ 105 ∷ 114 ∷ 115 ∷ []
 
-abbrev pub countWord : List ℕ
-countWord = 99 ∷ 111 ∷ 117 ∷ 110 ∷ 116 ∷ []
+abbrev pub count_word : List ℕ
+count_word = 99 ∷ 111 ∷ 117 ∷ 110 ∷ 116 ∷ []
 
-abbrev pub nearestWord : List ℕ
-nearestWord = 110 ∷ 101 ∷ 97 ∷ 114 ∷ 101 ∷ 115 ∷ 116 ∷ []
+abbrev pub nearest_word : List ℕ
+nearest_word = 110 ∷ 101 ∷ 97 ∷ 114 ∷ 101 ∷ 115 ∷ 116 ∷ []
 
 -- `refused `, `visits `, ` measured `, ` ruledout `, ` whole `
-abbrev pub refusedWord : List ℕ
-refusedWord = 114 ∷ 101 ∷ 102 ∷ 117 ∷ 115 ∷ 101 ∷ 100 ∷ 32 ∷ []
+abbrev pub refused_word : List ℕ
+refused_word = 114 ∷ 101 ∷ 102 ∷ 117 ∷ 115 ∷ 101 ∷ 100 ∷ 32 ∷ []
 
-abbrev pub visitsWord : List ℕ
-visitsWord = 118 ∷ 105 ∷ 115 ∷ 105 ∷ 116 ∷ 115 ∷ 32 ∷ []
+abbrev pub visits_word : List ℕ
+visits_word = 118 ∷ 105 ∷ 115 ∷ 105 ∷ 116 ∷ 115 ∷ 32 ∷ []
 
-abbrev pub measuredWord : List ℕ
-measuredWord = 32 ∷ 109 ∷ 101 ∷ 97 ∷ 115 ∷ 117 ∷ 114 ∷ 101 ∷ 100 ∷ 32 ∷ []
+abbrev pub measured_word : List ℕ
+measured_word = 32 ∷ 109 ∷ 101 ∷ 97 ∷ 115 ∷ 117 ∷ 114 ∷ 101 ∷ 100 ∷ 32 ∷ []
 
-abbrev pub ruledoutWord : List ℕ
-ruledoutWord = 32 ∷ 114 ∷ 117 ∷ 108 ∷ 101 ∷ 100 ∷ 111 ∷ 117 ∷ 116 ∷ 32 ∷ []
+abbrev pub ruledout_word : List ℕ
+ruledout_word = 32 ∷ 114 ∷ 117 ∷ 108 ∷ 101 ∷ 100 ∷ 111 ∷ 117 ∷ 116 ∷ 32 ∷ []
 
-abbrev pub wholeWord : List ℕ
-wholeWord = 32 ∷ 119 ∷ 104 ∷ 111 ∷ 108 ∷ 101 ∷ 32 ∷ []
+abbrev pub whole_word : List ℕ
+whole_word = 32 ∷ 119 ∷ 104 ∷ 111 ∷ 108 ∷ 101 ∷ 32 ∷ []
 
 -- a refusal: `refused`, number, side
-unfoldable pub refusedLine : (number side : ℕ) → List ℕ
-refusedLine number side = refusedWord ++ decimal number ++ space ++ decimal side ++ newline
+unfoldable pub refused_line : (number side : ℕ) → List ℕ
+refused_line number side = refused_word ++ decimal number ++ space ++ decimal side ++ newline
 
 -- first line: kind and number
-unfoldable pub firstLine : (kind : List ℕ) → ℕ → List ℕ
-firstLine kind n = kind ++ space ++ decimal n ++ newline
+unfoldable pub first_line : (kind : List ℕ) → ℕ → List ℕ
+first_line kind n = kind ++ space ++ decimal n ++ newline
 
 -- then left item, right item, distance bits
 unfoldable pub line : Found → List ℕ
@@ -59,5 +59,5 @@ lines (x ∷ l) = line x ++ lines l
 abbrev pub named : (word : List ℕ) → ℕ → List ℕ
 named word n = word ++ decimal n
 
-unfoldable pub totalsLine : Totals → List ℕ
-totalsLine t = named visitsWord t.visits ++ named measuredWord t.measured ++ named ruledoutWord t.ruledOut ++ named wholeWord t.whole ++ newline
+unfoldable pub totals_line : Totals → List ℕ
+totals_line t = named visits_word t.visits ++ named measured_word t.measured ++ named ruledout_word t.ruled_out ++ named whole_word t.whole ++ newline

@@ -1,7 +1,7 @@
 // The lines of an answer.
 ghost use Rattle.std.specs.Prelude.{◌+◌, ◌*◌, ◌≤◌, length};
 ghost use Rattle.answer.specs.Told.{totalsIn};
-ghost use Rattle.printing.specs.Text.{line as line_of, lines as lines_of, firstLine, refusedLine, named as wordAnd, totalsLine};
+ghost use Rattle.printing.specs.Text.{line as line_of, lines as lines_of, first_line, refused_line, named as wordAnd, totals_line};
 ghost use Rattle.printing.specs.Rows.{found, rows};
 ghost use Rattle.printing.specs.Puts.{Puts};
 
@@ -11,7 +11,7 @@ use answer::Totals;
 
 // `refused`, number and side.
 pub fn refused(out: &mut [u8], number: u32, side: u32) -> usize
-    ensures puts { Puts out.old 0 (refusedLine number side) out.new result }
+    ensures puts { Puts out.old 0 (refused_line number side) out.new result }
     ensures upper_bound { result ≤ 50 }
 {
     let a = text(&mut *out, 0, b"refused ");
@@ -24,7 +24,7 @@ pub fn refused(out: &mut [u8], number: u32, side: u32) -> usize
 // The first line: what was asked for, and how many there are.
 pub fn head(out: &mut [u8], kind: &[u8], n: u64) -> usize
     requires { length kind.now ≤ 8 }
-    ensures puts { Puts out.old 0 (firstLine kind.now n) out.new result }
+    ensures puts { Puts out.old 0 (first_line kind.now n) out.new result }
     ensures upper_bound { result ≤ 30 }
 {
     let a = text(&mut *out, 0, kind);
@@ -82,7 +82,7 @@ fn named(out: &mut [u8], at: usize, word: &[u8], n: u64) -> usize
 // The last line.
 pub fn totals(out: &mut [u8], at: usize, t: Totals) -> usize
     requires { at ≤ 65000 }
-    ensures puts { Puts out.old at (totalsLine (totalsIn t)) out.new result }
+    ensures puts { Puts out.old at (totals_line (totalsIn t)) out.new result }
     ensures upper_bound { result ≤ at + 120 }
 {
     let a = named(&mut *out, at, b"visits ", t.visits);

@@ -3,15 +3,15 @@ use Rattle.std.specs.Prelude.{◌≡◌, Bool, true, ◌^◌, ◌≤◌}
 use Rattle.written.specs.Visits.{whole}
 use Rattle.steps.specs.declared.tally.Tally.{Tally}
 use Rattle.radiusvisit.specs.declared.moves.Fate.{Fate}
-use Rattle.radiusvisit.specs.Moves.{fateOf}
+use Rattle.radiusvisit.specs.Moves.{fate_of}
 
 -- what was counted so far is little enough to add to
 pub record Few (t : Tally) : Type 0 where
-  pub found-few : t.found ≤ 2 ^ 32
-  pub measured-few : t.totals.measured ≤ 2 ^ 32
-  pub ruled-few : t.totals.ruled ≤ 2 ^ 32
-  pub whole-few : t.totals.whole ≤ 2 ^ 32
+  pub found_few : t.found ≤ 2 ^ 32
+  pub measured_few : t.totals.measured ≤ 2 ^ 32
+  pub ruled_few : t.totals.ruled ≤ 2 ^ 32
+  pub whole_few : t.totals.whole ≤ 2 ^ 32
 
 -- only a count takes node pairs whole
 abbrev pub MayEnd : (counting : Bool) → Fate → Type 0
-MayEnd counting fate = fateOf fate ≡ whole → counting ≡ true
+MayEnd counting fate = fate_of fate ≡ whole → counting ≡ true

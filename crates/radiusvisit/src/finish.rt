@@ -2,13 +2,13 @@
 ghost use Rattle.std.specs.Prelude.{◌≡◌, []};
 ghost use Rattle.written.specs.Visits.{measured};
 ghost use Rattle.metric.specs.Edges.{edge_of};
-ghost use Rattle.metric.specs.Flat.{boxesOf};
+ghost use Rattle.metric.specs.Flat.{boxes_of};
 ghost use Rattle.rooms.specs.Rooms.{SameRooms};
 ghost use Rattle.trees.specs.Lent.{stemless};
 ghost use Rattle.steps.specs.Standing.{pair_at};
 ghost use Rattle.steps.specs.Ending.{Leaves};
-ghost use Rattle.radiusvisit.specs.Work.{workOf, after};
-ghost use Rattle.radiusvisit.specs.Moves.{fateOf};
+ghost use Rattle.radiusvisit.specs.Work.{work_of, after};
+ghost use Rattle.radiusvisit.specs.Moves.{fate_of};
 ghost use Rattle.radiusvisit.specs.Ending.{Few, MayEnd};
 
 use crate::moves::Fate;
@@ -36,7 +36,7 @@ fn measure(
     requires leaves { Leaves k lstarts.now litems.now lcoords.now rstarts.now ritems.now rcoords.now at }
     requires few { Few t }
     requires same_rooms { SameRooms lout.old rout.old dout.old }
-    ensures { workOf result lout.new rout.new dout.new ≡ after (stemless k lstarts.now litems.now lcoords.now rstarts.now ritems.now rcoords.now) (edge_of under) radius counting (pair_at at (boxesOf [] [])) measured (workOf t lout.old rout.old dout.old) }
+    ensures { work_of result lout.new rout.new dout.new ≡ after (stemless k lstarts.now litems.now lcoords.now rstarts.now ritems.now rcoords.now) (edge_of under) radius counting (pair_at at (boxes_of [] [])) measured (work_of t lout.old rout.old dout.old) }
 {
     let n = area(lstarts, rstarts, at);
     let l = at.left;
@@ -80,7 +80,7 @@ pub fn finish(
     requires few { Few t }
     requires same_rooms { SameRooms lout.old rout.old dout.old }
     requires may_end { MayEnd counting fate }
-    ensures { workOf result lout.new rout.new dout.new ≡ after (stemless k lstarts.now litems.now lcoords.now rstarts.now ritems.now rcoords.now) (edge_of under) radius counting (pair_at at (boxesOf [] [])) (fateOf fate) (workOf t lout.old rout.old dout.old) }
+    ensures { work_of result lout.new rout.new dout.new ≡ after (stemless k lstarts.now litems.now lcoords.now rstarts.now ritems.now rcoords.now) (edge_of under) radius counting (pair_at at (boxes_of [] [])) (fate_of fate) (work_of t lout.old rout.old dout.old) }
 {
     match fate {
         Fate::Measured => measure(

@@ -1,16 +1,16 @@
 -- Buffers whose first places hold the numbers of a tree that lies in a job. Assumes nothing.
 use Rattle.std.specs.Prelude.{◌≡◌, List, ℕ, ◌≤◌, length, take, Float}
 use Rattle.tree.specs.Lent.{tree_of}
-use Rattle.reading.specs.Lays.{treeIn}
+use Rattle.reading.specs.Lays.{tree_in}
 use Rattle.reading.specs.declared.layout.Layout.{Layout}
 
 -- the buffers have room for the tree
 pub record Roomy (l : Layout) (starts : List ℕ) (stems : List Float) (items : List ℕ) (coords : List Float) : Type 0 where
-  pub starts-room : l.nstarts ≤ length starts
-  pub stems-room : l.nstems ≤ length stems
-  pub items-room : l.nitems ≤ length items
-  pub coords-room : l.ncoords ≤ length coords
+  pub starts_room : l.nstarts ≤ length starts
+  pub stems_room : l.nstems ≤ length stems
+  pub items_room : l.nitems ≤ length items
+  pub coords_room : l.ncoords ≤ length coords
 
 -- and then hold it
 abbrev pub Holds : List ℕ → Layout → (starts : List ℕ) (stems : List Float) (items : List ℕ) (coords : List Float) → Type 0
-Holds s l starts stems items coords = tree_of (take l.nstarts starts) (take l.nstems stems) (take l.nitems items) (take l.ncoords coords) ≡ treeIn s l
+Holds s l starts stems items coords = tree_of (take l.nstarts starts) (take l.nstems stems) (take l.nitems items) (take l.ncoords coords) ≡ tree_in s l

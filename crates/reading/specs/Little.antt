@@ -17,11 +17,11 @@ unfoldable pub number64 : List ℕ → ℕ → ℕ
 number64 s at = number32 s at + 4294967296 * number32 s (at + 4)
 
 -- binary64 by its bits; a NaN of any payload is the one NaN there is
-abbrev pub floatOf : ℕ → Float
-floatOf bits = of_bits binary64 bits
+abbrev pub float_of : ℕ → Float
+float_of bits = of_bits binary64 bits
 
 abbrev pub float64 : List ℕ → ℕ → Float
-float64 s at = floatOf (number64 s at)
+float64 s at = float_of (number64 s at)
 
 -- n of them, one after the other
 unfoldable pub numbers : List ℕ → (at n : ℕ) → List ℕ

@@ -1,12 +1,12 @@
 // The first 16 bytes: mark, version, K, mode, a zero byte, radius.
 ghost use Rattle.std.specs.Prelude.{◌≡◌, ◌≤◌, length};
-ghost use Rattle.reading.specs.Header.{sizeOk, markOk, modeOk, axesOk, headerRefusal};
+ghost use Rattle.reading.specs.Header.{size_ok, mark_ok, mode_ok, axes_ok, header_refusal};
 
 use crate::little::{u16_at, u64_at};
 
 // 21: neither too short for a header nor above the limit.
 fn size_ok(s: &[u8]) -> bool
-    ensures { result ≡ sizeOk s.now }
+    ensures { result ≡ size_ok s.now }
 {
     if s.len() < 16 {
         return false;
@@ -17,7 +17,7 @@ fn size_ok(s: &[u8]) -> bool
 // 22: KDJ.
 fn mark_ok(s: &[u8]) -> bool
     requires { 16 ≤ length s.now }
-    ensures { result ≡ markOk s.now }
+    ensures { result ≡ mark_ok s.now }
 {
     if s[0] != b'K' {
         return false;
@@ -31,7 +31,7 @@ fn mark_ok(s: &[u8]) -> bool
 // 24: a mode there is, the spare byte zero, and no radius for nearest.
 fn mode_ok(s: &[u8]) -> bool
     requires { 16 ≤ length s.now }
-    ensures { result ≡ modeOk s.now }
+    ensures { result ≡ mode_ok s.now }
 {
     if 4 < s[6] {
         return false;
@@ -48,7 +48,7 @@ fn mode_ok(s: &[u8]) -> bool
 // 1: K is 1 to 4.
 fn axes_ok(s: &[u8]) -> bool
     requires { 16 ≤ length s.now }
-    ensures { result ≡ axesOk s.now }
+    ensures { result ≡ axes_ok s.now }
 {
     if s[5] < 1 {
         return false;
@@ -58,7 +58,7 @@ fn axes_ok(s: &[u8]) -> bool
 
 // The number of the first rule broken, 0 where none is.
 pub fn header_refusal(s: &[u8]) -> u32
-    ensures { result ≡ headerRefusal s.now }
+    ensures { result ≡ header_refusal s.now }
 {
     if !size_ok(s) {
         return 21;

@@ -1,6 +1,6 @@
 // Numbers as they lie in a file: little-endian, at a place.
 ghost use Rattle.std.specs.Prelude.{◌≡◌, ◌+◌, ◌≤◌, ◌<◌, length, get_or};
-ghost use Rattle.reading.specs.Little.{number16, number32, number64, float64, floatOf};
+ghost use Rattle.reading.specs.Little.{number16, number32, number64, float64, float_of};
 
 // A byte, with its bound.
 fn wide(b: u8) -> u64
@@ -46,7 +46,7 @@ pub fn u64_at(s: &[u8], at: usize) -> u64
 
 // The float of a bit pattern. No operation makes a NaN of its pattern, so that is tested first.
 fn float_of(bits: u64) -> f64
-    ensures { result ≡ floatOf bits }
+    ensures { result ≡ float_of bits }
 {
     let magnitude = bits % 0x8000_0000_0000_0000;
     if magnitude <= 0x7ff0_0000_0000_0000 {

@@ -17,7 +17,7 @@ pub record Fits (n : Lengths) : Type 0 where
 
 -- the arrays of one tree, at their full lengths
 pub record Full (starts : List ℕ) (stems : List Float) (items : List ℕ) (coords : List Float) : Type 0 where
-  pub starts-length : length starts ≡ 4098
-  pub stems-length : length stems ≡ 2048
-  pub items-length : length items ≡ 65537
-  pub coords-length : length coords ≡ 2048
+  pub starts_length : length starts ≡ 4098
+  pub stems_length : length stems ≡ 2048
+  pub items_length : length items ≡ 65537
+  pub coords_length : length coords ≡ 2048

@@ -1,7 +1,7 @@
 // A found pair, and the three buffers that are lent for pairs: the pairs of one left point stored as far as there is room.
 ghost use Rattle.std.specs.Prelude.{◌≡◌, suc, ◌-◌, ◌<◌, min, length, take};
 ghost use Rattle.rooms.specs.Rooms.{filling, put, puts, SameRooms};
-ghost use Rattle.rooms.specs.Emitted.{foundOf, placesBelow, pairsAt, Emits};
+ghost use Rattle.rooms.specs.Emitted.{found_of, places_below, pairs_at, Emits};
 
 // A found pair is two item numbers and one distance.
 #[derive(Drop)]
@@ -29,7 +29,7 @@ fn fitting(m: usize, found: u64, room: usize) -> usize
 fn store(pair: Pair, at: usize, lout: &mut [u32], rout: &mut [u32], dout: &mut [f64])
     requires same_rooms { SameRooms lout.old rout.old dout.old }
     requires at_in_bounds { at < length lout.old }
-    ensures { filling (suc at) lout.new rout.new dout.new ≡ put (filling at lout.old rout.old dout.old) (foundOf pair) }
+    ensures { filling (suc at) lout.new rout.new dout.new ≡ put (filling at lout.old rout.old dout.old) (found_of pair) }
 {
     lout[at] = pair.left;
     rout[at] = pair.right;
@@ -50,7 +50,7 @@ pub fn emit(
 ) -> u64
     requires emits { Emits (take m places.now) m ritems.now found }
     requires same_rooms { SameRooms lout.old rout.old dout.old }
-    ensures { filling result lout.new rout.new dout.new ≡ puts (filling found lout.old rout.old dout.old) (pairsAt dists.now left ritems.now (take m places.now)) }
+    ensures { filling result lout.new rout.new dout.new ≡ puts (filling found lout.old rout.old dout.old) (pairs_at dists.now left ritems.now (take m places.now)) }
 {
     let fit = fitting(m, found, lout.len());
     let at = found as usize;
@@ -80,9 +80,9 @@ pub fn emit_all(
     rout: &mut [u32],
     dout: &mut [f64],
 ) -> u64
-    requires emits { Emits (placesBelow (length ritems.now)) (length ritems.now) ritems.now found }
+    requires emits { Emits (places_below (length ritems.now)) (length ritems.now) ritems.now found }
     requires same_rooms { SameRooms lout.old rout.old dout.old }
-    ensures { filling result lout.new rout.new dout.new ≡ puts (filling found lout.old rout.old dout.old) (pairsAt dists.now left ritems.now (placesBelow (length ritems.now))) }
+    ensures { filling result lout.new rout.new dout.new ≡ puts (filling found lout.old rout.old dout.old) (pairs_at dists.now left ritems.now (places_below (length ritems.now))) }
 {
     let fit = fitting(ritems.len(), found, lout.len());
     let at = found as usize;

@@ -21,9 +21,9 @@ abbrev pub bounded : (minL maxL minR maxR : Float) → Bool
 bounded minL maxL minR maxR = finite minL && finite maxL && finite minR && finite maxR
 
 -- a test passes on each of the axes 0 to K - 1
-abbrev pub everyAxis : (ℕ → Bool) → ℕ → Bool
-everyAxis test zero = true
-everyAxis test (suc k) = everyAxis test k && test k
+abbrev pub every_axis : (ℕ → Bool) → ℕ → Bool
+every_axis test zero = true
+every_axis test (suc k) = every_axis test k && test k
 
 -- the lower bound: the gaps, summed from 0 in axis order
 unfoldable pub lower : Format → (minL maxL minR maxR : Row) → ℕ → Float
@@ -35,4 +35,4 @@ unfoldable pub upper : Format → (minL maxL minR maxR : Row) → ℕ → Float
 unfolding summed reach1
 upper f minL maxL minR maxR K =
     let reaches = summed f (λ (d : ℕ). reach1 f (minL d) (maxL d) (minR d) (maxR d)) K in
-    cond (everyAxis (λ (d : ℕ). bounded (minL d) (maxL d) (minR d) (maxR d)) K) reaches (inf false)
+    cond (every_axis (λ (d : ℕ). bounded (minL d) (maxL d) (minR d) (maxR d)) K) reaches (inf false)

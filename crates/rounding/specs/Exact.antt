@@ -12,7 +12,7 @@ use Rattle.std.specs.Float.Ieee.Nearest.{div_same}
 use Rattle.std.specs.Float.Ieee.Scale.{round_same}
 use Rattle.rounding.specs.Distance.{zero₊}
 use Rattle.rounding.specs.Fraction.{four}
-use Rattle.rounding.specs.Signs.{plain, cross-le}
+use Rattle.rounding.specs.Signs.{plain, cross_le}
 
 -- ---- the one way
 bits_of : (f : Format) (s : Bool) (n : ℕ) → ℕ
@@ -23,9 +23,9 @@ unfolding to_bits bits_of
 bits_is f s m e = refl
 
 -- two values that fit, with one sign and equal in size
-unique-fin : (f : Format) (s : Bool) (m : ℕ) (e : ℤ) (n : ℕ) (d : ℤ) → T (fits f (fin s m e)) → T (fits f (fin s n d))
+unique_fin : (f : Format) (s : Bool) (m : ℕ) (e : ℤ) (n : ℕ) (d : ℤ) → T (fits f (fin s m e)) → T (fits f (fin s n d))
     → m * up e * down d ≡ n * up d * down e → fin s m e ≡ fin s n d
-unique-fin f s m e n d p q h =
+unique_fin f s m e n d p q h =
     let A = m * up e in
     let B = n * up d in
     let l = 2 ^ low f in
@@ -40,17 +40,17 @@ unique : (f : Format) (x : Float) (s : Bool) (m : ℕ) (e : ℤ) → T (fits f x
 unique f nan s m e p q h = absurd h
 unique f (inf t) s m e p q h = absurd h
 unique f (fin t n d) s m e p q h =
-    ap (λ (z : Bool). fin z n d) h.0 ∙ unique-fin f s n d m e (subst (λ (z : Bool). T (fits f (fin z n d))) h.0 p) q h.1
+    ap (λ (z : Bool). fin z n d) h.0 ∙ unique_fin f s n d m e (subst (λ (z : Bool). T (fits f (fin z n d))) h.0 p) q h.1
 
 -- ---- what its own fraction rounds to
-pow-le : (a b : ℕ) → 2 ^ a ≤ 2 ^ b → a ≤ b
-pow-le a b h = le_of_suc-le-suc (lt_of_not-le (λ (g : suc b ≤ a). not-le_of_lt (pow-lt g) h))
+pow_le : (a b : ℕ) → 2 ^ a ≤ 2 ^ b → a ≤ b
+pow_le a b h = le_of_suc-le-suc (lt_of_not-le (λ (g : suc b ≤ a). not-le_of_lt (pow-lt g) h))
 
 -- 2 ^ e in units of 2 ^ -l is a power of two
 shift : (e : ℤ) (l : ℕ) → down e ≤ 2 ^ l → (j : ℕ) × (up e * 2 ^ l ≡ 2 ^ j * down e)
 shift (pos k) l h = (k + l, sym (pow-add 2 k l) ∙ sym (mul-one (2 ^ (k + l))))
 shift (negsuc k) l h =
-    let j : l - suc k + suc k ≡ l = back l (suc k) (pow-le (suc k) l h) in
+    let j : l - suc k + suc k ≡ l = back l (suc k) (pow_le (suc k) l h) in
     (l - suc k, one-mul (2 ^ l) ∙ ap (λ (z : ℕ). 2 ^ z) (sym j) ∙ pow-add 2 (l - suc k) (suc k))
 
 own_val : (f : Format) (s : Bool) (m : ℕ) (e : ℤ) → m < 2 ^ prec f → down e ≤ 2 ^ low f → m * up e < 2 ^ suc (emax f) * down e
@@ -65,16 +65,16 @@ own_val f s m e a b c =
     let below : m * 2 ^ j * down e < 2 ^ (l + E) * down e = rw (sym same, sym top) (mul-lt-mul_of_pos_right c (pow_pos l)) in
     round_exact f s (m * up e) (down e) m j (down_pos e) a (lt_of_mul-lt-mul_right (down e) below) same
 
-fits-val : (f : Format) (s : Bool) (m : ℕ) (e : ℤ) → T (fits f (fin s m e)) → HasValue (round f s (m * up e) (down e)) s (m * up e) (down e)
+fits_val : (f : Format) (s : Bool) (m : ℕ) (e : ℤ) → T (fits f (fin s m e)) → HasValue (round f s (m * up e) (down e)) s (m * up e) (down e)
 unfolding fits
-fits-val f s zero e t = round_exact f s (0 * up e) (down e) 0 0 (down_pos e) (pow_pos (prec f)) (pow_pos (low f + suc (emax f))) (simp zero-mul)
-fits-val f s (suc m) e t =
+fits_val f s zero e t = round_exact f s (0 * up e) (down e) 0 0 (down_pos e) (pow_pos (prec f)) (pow_pos (low f + suc (emax f))) (simp zero-mul)
+fits_val f s (suc m) e t =
     let h = four (eqb (suc m % 2) 1) (ltb (suc m) (2 ^ prec f)) (leb (down e) (2 ^ low f)) (ltb (suc m * up e) (2 ^ suc (emax f) * down e)) t in
     own_val f s (suc m) e (ltb→lt _ _ h.1) (leb→le _ _ h.2) (ltb→lt _ _ h.3)
 
 -- a value that fits is what its own fraction rounds to
-round-own : (f : Format) (s : Bool) (m : ℕ) (e : ℤ) → T (fits f (fin s m e)) → round f s (m * up e) (down e) ≡ fin s m e
-round-own f s m e t = unique f (round f s (m * up e) (down e)) s m e (round-fits f s (m * up e) (down e)) t (fits-val f s m e t)
+round_own : (f : Format) (s : Bool) (m : ℕ) (e : ℤ) → T (fits f (fin s m e)) → round f s (m * up e) (down e) ≡ fin s m e
+round_own f s m e t = unique f (round f s (m * up e) (down e)) s m e (round-fits f s (m * up e) (down e)) t (fits_val f s m e t)
 
 -- ---- +0 plus a value without a sign is that value, as data
 pub zero-add : (f : Format) (x : Float) → T (fits f x) → T (plain x) → add f zero₊ x ≡ x
@@ -84,26 +84,26 @@ zero-add f (inf s) t p = refl
 zero-add f (fin true m e) t p = absurd p
 zero-add f (fin false m e) t p =
     round_same f false (0 * down e + m * up e * 1) (1 * down e) (m * up e) (down e) (mul-pos (zero-lt-suc 0) (down_pos e)) (down_pos e) (same (m * up e) (down e))
-    ∙ round-own f false m e t
+    ∙ round_own f false m e t
   where
     same : (a b : ℕ) → (0 * b + a * 1) * b ≡ a * (1 * b)
     same a b = let plus : 0 * b + a * 1 ≡ a = omega arith in rw (plus, one-mul b)
 
 -- ---- two values that fit and have no sign are equal as data where neither is below the other
-pub plain-antisymm : (f : Format) (x y : Float) → T (fits f x) → T (fits f y) → T (plain x) → T (plain y) → T (le x y) → T (le y x) → x ≡ y
+pub plain_antisymm : (f : Format) (x y : Float) → T (fits f x) → T (fits f y) → T (plain x) → T (plain y) → T (le x y) → T (le y x) → x ≡ y
 unfolding le
-plain-antisymm f nan y t u p q h k = absurd p
-plain-antisymm f (inf true) y t u p q h k = absurd p
-plain-antisymm f (inf false) nan t u p q h k = absurd q
-plain-antisymm f (inf false) (inf true) t u p q h k = absurd q
-plain-antisymm f (inf false) (inf false) t u p q h k = refl
-plain-antisymm f (inf false) (fin b n d) t u p q h k = absurd h
-plain-antisymm f (fin true m e) y t u p q h k = absurd p
-plain-antisymm f (fin false m e) nan t u p q h k = absurd q
-plain-antisymm f (fin false m e) (inf true) t u p q h k = absurd q
-plain-antisymm f (fin false m e) (inf false) t u p q h k = absurd k
-plain-antisymm f (fin false m e) (fin true n d) t u p q h k = absurd q
-plain-antisymm f (fin false m e) (fin false n d) t u p q h k =
+plain_antisymm f nan y t u p q h k = absurd p
+plain_antisymm f (inf true) y t u p q h k = absurd p
+plain_antisymm f (inf false) nan t u p q h k = absurd q
+plain_antisymm f (inf false) (inf true) t u p q h k = absurd q
+plain_antisymm f (inf false) (inf false) t u p q h k = refl
+plain_antisymm f (inf false) (fin b n d) t u p q h k = absurd h
+plain_antisymm f (fin true m e) y t u p q h k = absurd p
+plain_antisymm f (fin false m e) nan t u p q h k = absurd q
+plain_antisymm f (fin false m e) (inf true) t u p q h k = absurd q
+plain_antisymm f (fin false m e) (inf false) t u p q h k = absurd k
+plain_antisymm f (fin false m e) (fin true n d) t u p q h k = absurd q
+plain_antisymm f (fin false m e) (fin false n d) t u p q h k =
     let x = fin false m e in
     let y = fin false n d in
-    unique-fin f false m e n d t u (le_antisymm (cross-le x y tt tt p q h) (cross-le y x tt tt q p k))
+    unique_fin f false m e n d t u (le_antisymm (cross_le x y tt tt p q h) (cross_le y x tt tt q p k))

@@ -109,35 +109,35 @@ le_is (fin s m e) nan p q = absurd q
 le_is (fin s m e) (inf t) p q = absurd q
 le_is (fin s m e) (fin t n d) p q = refl
 
-lt-is : (x y : Float) → T (finite x) → T (finite y) → lt x y ≡ below (sgn x) (num x * den y) (sgn y) (num y * den x)
+lt_is : (x y : Float) → T (finite x) → T (finite y) → lt x y ≡ below (sgn x) (num x * den y) (sgn y) (num y * den x)
 unfolding lt
-lt-is nan y p q = absurd p
-lt-is (inf s) y p q = absurd p
-lt-is (fin s m e) nan p q = absurd q
-lt-is (fin s m e) (inf t) p q = absurd q
-lt-is (fin s m e) (fin t n d) p q = refl
+lt_is nan y p q = absurd p
+lt_is (inf s) y p q = absurd p
+lt_is (fin s m e) nan p q = absurd q
+lt_is (fin s m e) (inf t) p q = absurd q
+lt_is (fin s m e) (fin t n d) p q = refl
 
 -- ---- A / D and a / N are one fraction, and so are B / D and b / N
-scale-le : (A B a b N D : ℕ) → 0 < D → A * N ≡ a * D → B * N ≡ b * D → A ≤ B → a ≤ b
-scale-le A B a b N D P p q h = le_of_mul-le-mul_right (rw (sym p, sym q) (mul-le-mul_right N h)) P
+scale_le : (A B a b N D : ℕ) → 0 < D → A * N ≡ a * D → B * N ≡ b * D → A ≤ B → a ≤ b
+scale_le A B a b N D P p q h = le_of_mul-le-mul_right (rw (sym p, sym q) (mul-le-mul_right N h)) P
 
-scale-lt : (A B a b N D : ℕ) → 0 < N → A * N ≡ a * D → B * N ≡ b * D → A < B → a < b
-scale-lt A B a b N D P p q h = lt_of_mul-lt-mul_right D (rw (sym p, sym q) (mul-lt-mul_of_pos_right h P))
+scale_lt : (A B a b N D : ℕ) → 0 < N → A * N ≡ a * D → B * N ≡ b * D → A < B → a < b
+scale_lt A B a b N D P p q h = lt_of_mul-lt-mul_right D (rw (sym p, sym q) (mul-lt-mul_of_pos_right h P))
 
-pub sum-scale : (A B a b N D : ℕ) → A * N ≡ a * D → B * N ≡ b * D → (A + B) * N ≡ (a + b) * D
-sum-scale A B a b N D p q = rw (add-mul A B N, add-mul a b D, p, q)
+pub sum_scale : (A B a b N D : ℕ) → A * N ≡ a * D → B * N ≡ b * D → (A + B) * N ≡ (a + b) * D
+sum_scale A B a b N D p q = rw (add-mul A B N, add-mul a b D, p, q)
 
-gain-scale : (s : Bool) (A a N D : ℕ) → A * N ≡ a * D → gain s A * N ≡ gain s a * D
-gain-scale false A a N D p = p
-gain-scale true A a N D p = zero-mul N ∙ sym (zero-mul D)
+gain_scale : (s : Bool) (A a N D : ℕ) → A * N ≡ a * D → gain s A * N ≡ gain s a * D
+gain_scale false A a N D p = p
+gain_scale true A a N D p = zero-mul N ∙ sym (zero-mul D)
 
-pub side-scale : (s : Bool) (A : ℕ) (t : Bool) (B a b N D : ℕ) → A * N ≡ a * D → B * N ≡ b * D → side s A t B * N ≡ side s a t b * D
-side-scale s A t B a b N D p q = sum-scale (gain s A) (gain (not t) B) (gain s a) (gain (not t) b) N D (gain-scale s A a N D p) (gain-scale (not t) B b N D q)
+pub side_scale : (s : Bool) (A : ℕ) (t : Bool) (B a b N D : ℕ) → A * N ≡ a * D → B * N ≡ b * D → side s A t B * N ≡ side s a t b * D
+side_scale s A t B a b N D p q = sum_scale (gain s A) (gain (not t) B) (gain s a) (gain (not t) b) N D (gain_scale s A a N D p) (gain_scale (not t) B b N D q)
 
 -- ---- two values over N, and over the product of their own denominators, as `le`, `lt`, `add` and `sub` have them
 module _ {x y : Float} {a b N : ℕ} (p : Val x a N) (q : Val y b N) where
-  pub both-pos : 0 < den x * den y
-  both-pos = mul-pos (den_pos x) (den_pos y)
+  pub both_pos : 0 < den x * den y
+  both_pos = mul-pos (den_pos x) (den_pos y)
 
   pub left : num x * den y * N ≡ a * (den x * den y)
   left = mul_right_comm (num x) (den y) N ∙ ap (λ (z : ℕ). z * den y) p.cross ∙ mul_assoc a (den x) (den y)
@@ -146,22 +146,22 @@ module _ {x y : Float} {a b N : ℕ} (p : Val x a N) (q : Val y b N) where
   right = mul_right_comm (num y) (den x) N ∙ ap (λ (z : ℕ). z * den x) q.cross ∙ mul_right_comm b (den y) (den x) ∙ mul_assoc b (den x) (den y)
 
   near : side (sgn x) (num x * den y) (sgn y) (num y * den x) * N ≡ side (sgn x) a (sgn y) b * (den x * den y)
-  near = side-scale (sgn x) (num x * den y) (sgn y) (num y * den x) a b N (den x * den y) left right
+  near = side_scale (sgn x) (num x * den y) (sgn y) (num y * den x) a b N (den x * den y) left right
 
   far : side (sgn y) (num y * den x) (sgn x) (num x * den y) * N ≡ side (sgn y) b (sgn x) a * (den x * den y)
-  far = side-scale (sgn y) (num y * den x) (sgn x) (num x * den y) b a N (den x * den y) right left
+  far = side_scale (sgn y) (num y * den x) (sgn x) (num x * den y) b a N (den x * den y) right left
 
   pub le→Le : T (le x y) → Le (sgn x) a (sgn y) b
-  le→Le h = scale-le _ _ _ _ N (den x * den y) both-pos near far (test→Le (sgn x) (num x * den y) (sgn y) (num y * den x) (rw (le_is x y p.bounded q.bounded) at h))
+  le→Le h = scale_le _ _ _ _ N (den x * den y) both_pos near far (test→Le (sgn x) (num x * den y) (sgn y) (num y * den x) (rw (le_is x y p.bounded q.bounded) at h))
 
   pub Le→le : Le (sgn x) a (sgn y) b → T (le x y)
-  Le→le h = rw (le_is x y p.bounded q.bounded) (Le→test (sgn x) (num x * den y) (sgn y) (num y * den x) (scale-le _ _ _ _ (den x * den y) N p.under (sym near) (sym far) h))
+  Le→le h = rw (le_is x y p.bounded q.bounded) (Le→test (sgn x) (num x * den y) (sgn y) (num y * den x) (scale_le _ _ _ _ (den x * den y) N p.under (sym near) (sym far) h))
 
   pub lt→Lt : T (lt x y) → Lt (sgn x) a (sgn y) b
-  lt→Lt h = scale-lt _ _ _ _ N (den x * den y) p.under near far (below→Lt (sgn x) (num x * den y) (sgn y) (num y * den x) (rw (lt-is x y p.bounded q.bounded) at h))
+  lt→Lt h = scale_lt _ _ _ _ N (den x * den y) p.under near far (below→Lt (sgn x) (num x * den y) (sgn y) (num y * den x) (rw (lt_is x y p.bounded q.bounded) at h))
 
   pub Lt→lt : Lt (sgn x) a (sgn y) b → T (lt x y)
-  Lt→lt h = rw (lt-is x y p.bounded q.bounded) (Lt→below (sgn x) (num x * den y) (sgn y) (num y * den x) (scale-lt _ _ _ _ (den x * den y) N both-pos (sym near) (sym far) h))
+  Lt→lt h = rw (lt_is x y p.bounded q.bounded) (Lt→below (sgn x) (num x * den y) (sgn y) (num y * den x) (scale_lt _ _ _ _ (den x * den y) N both_pos (sym near) (sym far) h))
 
 -- ---- a denominator for four values
 pub record Common (x y z w : Float) : Type 0 where

@@ -28,21 +28,21 @@ abs (inf s) = inf false
 abs (fin s m e) = fin false m e
 
 -- ---- the order of values without a sign is the order of their sizes
-plain-sgn : (x : Float) → T (plain x) → T (not (sgn x))
-plain-sgn nan h = absurd h
-plain-sgn (inf s) h = h
-plain-sgn (fin s m e) h = h
+plain_sgn : (x : Float) → T (plain x) → T (not (sgn x))
+plain_sgn nan h = absurd h
+plain_sgn (inf s) h = h
+plain_sgn (fin s m e) h = h
 
 pub le→≤ : {x y : Float} {a b N : ℕ} → T (plain x) → T (plain y) → Val x a N → Val y b N → T (le x y) → a ≤ b
-le→≤ {x} {y} {a} {b} i j p q h = go (sgn x) (sgn y) (plain-sgn x i) (plain-sgn y j) (le→Le p q h)
+le→≤ {x} {y} {a} {b} i j p q h = go (sgn x) (sgn y) (plain_sgn x i) (plain_sgn y j) (le→Le p q h)
   where
     go : (s t : Bool) → T (not s) → T (not t) → Le s a t b → a ≤ b
     go true t i j l = absurd i
     go false true i j l = absurd j
     go false false i j l = omega arith
 
-pub cross-le : (x y : Float) → T (finite x) → T (finite y) → T (plain x) → T (plain y) → T (le x y) → num x * den y ≤ num y * den x
-cross-le x y p q i j h =
+pub cross_le : (x y : Float) → T (finite x) → T (finite y) → T (plain x) → T (plain y) → T (le x y) → num x * den y ≤ num y * den x
+cross_le x y p q i j h =
     let P = mul-pos (den_pos x) (den_pos y) in
     le→≤ i j (val_of x (den y) (den x * den y) p P refl) (val_of y (den x) (den x * den y) q P (mul_comm (den y) (den x))) h
 
@@ -59,28 +59,28 @@ zero-le (fin false m e) h =
     Le→le none own (omega arith)
 
 -- ---- rounding puts the sign on last
-units-plain : (f : Format) (q k : ℕ) → T (plain (units f false q k))
+units_plain : (f : Format) (q k : ℕ) → T (plain (units f false q k))
 unfolding units odd
-units-plain f q k = go (ltb (q * 2 ^ k) (2 ^ (low f + suc (emax f)))) q
+units_plain f q k = go (ltb (q * 2 ^ k) (2 ^ (low f + suc (emax f)))) q
   where
     go : (b : Bool) (q : ℕ) → T (plain (cond b (odd (suc (prec f)) false q k (low f)) (inf false)))
     go true zero = tt
     go true (suc q) = tt
     go false q = tt
 
-pub round-plain : (f : Format) (a c : ℕ) → T (plain (round f false a c))
+pub round_plain : (f : Format) (a c : ℕ) → T (plain (round f false a c))
 unfolding round
-round-plain f a c = units-plain f _ _
+round_plain f a c = units_plain f _ _
 
-units-abs : (f : Format) (s : Bool) (q k : ℕ) → abs (units f s q k) ≡ units f false q k
+units_abs : (f : Format) (s : Bool) (q k : ℕ) → abs (units f s q k) ≡ units f false q k
 unfolding units odd
-units-abs f s q k = go (ltb (q * 2 ^ k) (2 ^ (low f + suc (emax f)))) q
+units_abs f s q k = go (ltb (q * 2 ^ k) (2 ^ (low f + suc (emax f)))) q
   where
     go : (b : Bool) (q : ℕ) → abs (cond b (odd (suc (prec f)) s q k (low f)) (inf s)) ≡ cond b (odd (suc (prec f)) false q k (low f)) (inf false)
     go true zero = refl
     go true (suc q) = refl
     go false q = refl
 
-pub round-abs : (f : Format) (s : Bool) (a c : ℕ) → abs (round f s a c) ≡ round f false a c
+pub round_abs : (f : Format) (s : Bool) (a c : ℕ) → abs (round f s a c) ≡ round f false a c
 unfolding round
-round-abs f s a c = units-abs f s _ _
+round_abs f s a c = units_abs f s _ _

@@ -71,9 +71,9 @@ orders =
 abbrev compared : ℕ → ℕ → Bool × Bool × Bool
 compared a b = let x = of_bits binary64 a in let y = of_bits binary64 b in (lt x y, eq x y, le x y)
 
-orders-hold : map (λ r. compared r.0 r.1) orders ≡ map (λ r. (r.2, r.3, r.4)) orders
+orders_hold : map (λ r. compared r.0 r.1) orders ≡ map (λ r. (r.2, r.3, r.4)) orders
 unfolding orders of_bits lt eq le
-orders-hold = refl
+orders_hold = refl
 
 -- ---- one axis: the format, x, y, the square of x - y
 squares : List (Format × ℕ × ℕ × ℕ)
@@ -95,9 +95,9 @@ squares =
 abbrev squared : Format → ℕ → ℕ → ℕ
 squared f a b = to_bits f (dist1 f (of_bits f a) (of_bits f b))
 
-squares-hold : map (λ r. squared r.0 r.1 r.2) squares ≡ map (λ r. r.3) squares
+squares_hold : map (λ r. squared r.0 r.1 r.2) squares ≡ map (λ r. r.3) squares
 unfolding squares of_bits to_bits dist1
-squares-hold = refl
+squares_hold = refl
 
 -- ---- all axes: by axis the coordinates of two points, then their distance
 distances : List (List (ℕ × ℕ) × ℕ)
@@ -115,9 +115,9 @@ distances =
 abbrev measured : List (ℕ × ℕ) → ℕ
 measured axes = to_bits binary64 (distance binary64 (column (λ a. a.0) (NaN, NaN) axes) (column (λ a. a.1) (NaN, NaN) axes) (length axes))
 
-distances-hold : map (λ r. measured r.0) distances ≡ map (λ r. r.1) distances
+distances_hold : map (λ r. measured r.0) distances ≡ map (λ r. r.1) distances
 unfolding distances of_bits to_bits distance
-distances-hold = refl
+distances_hold = refl
 
 -- ---- lower bounds: by axis the left box's min and max and the right box's min and max, then the bound
 abbrev Sides : Type 0
@@ -144,9 +144,9 @@ lowers =
     ((0x0, 0x0, tenth, tenth) ∷ (0x0, 0x0, fifth, fifth) ∷ (0x0, 0x0, half, half) ∷ [], 0x3fd3333333333333) ∷  -- three axes: 0.3; from the last axis it would be one step above the distance
     []
 
-lowers-hold : map (λ r. bound (lower binary64) r.0) lowers ≡ map (λ r. r.1) lowers
+lowers_hold : map (λ r. bound (lower binary64) r.0) lowers ≡ map (λ r. r.1) lowers
 unfolding lowers of_bits to_bits lower lt
-lowers-hold = refl
+lowers_hold = refl
 
 -- ---- upper bounds: the same columns
 uppers : List (List Sides × ℕ)
@@ -170,9 +170,9 @@ uppers =
     ((NaN, one, five, 0x4018000000000000) ∷ (0x0, 0x4000000000000000, three, three) ∷ [], +∞) ∷  -- the first alone
     []
 
-uppers-hold : map (λ r. bound (upper binary64) r.0) uppers ≡ map (λ r. r.1) uppers
+uppers_hold : map (λ r. bound (upper binary64) r.0) uppers ≡ map (λ r. r.1) uppers
 unfolding uppers of_bits to_bits upper lt
-uppers-hold = refl
+uppers_hold = refl
 
 -- ---- the finite test by arithmetic: the format, x, whether x - x == 0
 finites : List (Format × ℕ × Bool)
@@ -196,6 +196,6 @@ finites =
 abbrev tested : Format → ℕ → Bool
 tested f a = let x = of_bits f a in eq (sub f x x) zero₊
 
-finites-hold : map (λ r. tested r.0 r.1) finites ≡ map (λ r. r.2) finites
+finites_hold : map (λ r. tested r.0 r.1) finites ≡ map (λ r. r.2) finites
 unfolding finites of_bits sub eq
-finites-hold = refl
+finites_hold = refl

@@ -7,27 +7,27 @@ use native.Mathlib.Omega.{arith}
 use lib.ListN.{length}
 use Rattle.written.specs.LentTree.{axis}
 use Rattle.written.specs.Boxes.{Trees, Boxes, everywhere}
-use Rattle.written.specs.NodePairs.{NodePair, rootPair, stemLevels}
+use Rattle.written.specs.NodePairs.{NodePair, root_pair, stem_levels}
 use Rattle.written.specs.Answers.{Accepts}
 use Rattle.written.specs.Laws.Boxes.{Sized}
 use Rattle.written.specs.Laws.RadiusWalk.{Good, good_start}
-use Rattle.written.specs.Laws.Accepted.{both-accepted}
-use Rattle.written.specs.Limits.{levels-fit}
-use Rattle.cursor.specs.Held.{node_of, rootOver}
+use Rattle.written.specs.Laws.Accepted.{both_accepted}
+use Rattle.written.specs.Limits.{levels_fit}
+use Rattle.cursor.specs.Held.{node_of, root_over}
 use Rattle.steps.specs.declared.nodes.Nodes.{Nodes}
 use Rattle.steps.specs.declared.waiting.Waiting.{Waiting}
 use Rattle.steps.specs.declared.waiting.Waiting.TheVariants.{Half, Restore}
 use Rattle.steps.specs.Standing.{pair_at}
-use Rattle.steps.proofs.Halves.{Order, slot_of, put, waitingBoxes}
+use Rattle.steps.proofs.Halves.{Order, slot_of, put, waiting_boxes}
 use Rattle.steps.proofs.Waits.{view}
-use Rattle.steps.proofs.Pending.{levelsLeft, Walk, resume, resume-none, ahead, resume-grows, ahead-grows}
+use Rattle.steps.proofs.Pending.{levels_left, Walk, resume, resume_none, ahead, resume_grows, ahead_grows}
 
 -- each half that waits is good for its turn and leaves room for what it will push; each entry names an axis
 abbrev pub Sound : Trees → Order → Boxes → List Waiting → Type 0
 Sound j o b [] = Unit {0}
 Sound j o b (Half side axis lo hi v at ∷ ws) =
-    Good j (levelsLeft (pair_at at b)) (pair_at at (waitingBoxes o (slot_of side axis) lo hi v b))
-    × (suc (length ws) + levelsLeft (pair_at at b) ≤ stemLevels j)
+    Good j (levels_left (pair_at at b)) (pair_at at (waiting_boxes o (slot_of side axis) lo hi v b))
+    × (suc (length ws) + levels_left (pair_at at b) ≤ stem_levels j)
     × (axis < 4)
     × Sound j o (put (slot_of side axis) lo hi b) ws
 Sound j o b (Restore side axis lo hi ∷ ws) = (axis < 4) × Sound j o (put (slot_of side axis) lo hi b) ws
@@ -37,49 +37,49 @@ module _ {j : Trees} {W : Type 0} (k : Walk j W) where
     pub owes : resume k b (view len stack) (ahead k here (pair_at at b) w) ≡ all
     pub size : length stack ≡ 25
     pub sized : Sized b
-    pub deep : len ≤ stemLevels j
-    pub good : here ≡ true → Good j (levelsLeft (pair_at at b)) (pair_at at b)
-    pub depth : here ≡ true → len + levelsLeft (pair_at at b) ≤ stemLevels j
+    pub deep : len ≤ stem_levels j
+    pub good : here ≡ true → Good j (levels_left (pair_at at b)) (pair_at at b)
+    pub depth : here ≡ true → len + levels_left (pair_at at b) ≤ stem_levels j
     pub waits : Sound j k.order b (view len stack)
 
   -- ---- the start
 
   pub start : Accepts j → (at : Nodes) (stack : List Waiting) {all : W} {b : Boxes} {w : W} → length stack ≡ 25
-      → node_of at.left ≡ rootOver (length j.left.starts - 1) → node_of at.right ≡ rootOver (length j.right.starts - 1)
-      → b ≡ everywhere → k.walks (rootPair j) w ≡ all → Going all at b w stack 0 true
+      → node_of at.left ≡ root_over (length j.left.starts - 1) → node_of at.right ≡ root_over (length j.right.starts - 1)
+      → b ≡ everywhere → k.walks (root_pair j) w ≡ all → Going all at b w stack 0 true
   start ok at stack {all} {b} {w} h l r eb ew =
-      let s : pair_at at everywhere ≡ rootPair j = λ i. record { left = l i; right = r i; boxes = everywhere } in
+      let s : pair_at at everywhere ≡ root_pair j = λ i. record { left = l i; right = r i; boxes = everywhere } in
       subst (λ (c : Boxes). Going all at c w stack 0 true) (sym eb)
       (record {
-        owes = resume-none k everywhere _ ∙ ap (λ (p : NodePair). k.walks p w) s ∙ ew;
+        owes = resume_none k everywhere _ ∙ ap (λ (p : NodePair). k.walks p w) s ∙ ew;
         size = h;
-        sized = record { mins-size = refl; maxs-size = refl };
+        sized = record { mins_size = refl; maxs_size = refl };
         deep = omega arith;
-        good = λ e. subst (λ (p : NodePair). Good j (levelsLeft p) p) (sym s) (good_start j (both-accepted j ok));
-        depth = λ e. let q : levelsLeft (pair_at at everywhere) ≡ stemLevels j = ap levelsLeft s in omega arith;
+        good = λ e. subst (λ (p : NodePair). Good j (levels_left p) p) (sym s) (good_start j (both_accepted j ok));
+        depth = λ e. let q : levels_left (pair_at at everywhere) ≡ stem_levels j = ap levels_left s in omega arith;
         waits = tt;
       })
 
 module _ {j : Trees} {W : Type 0} {k : Walk j W} {all : W} {at : Nodes} {b : Boxes} {w : W} {stack : List Waiting} {len : ℕ} where
   -- the node pair at hand, or none
-  pub at-hand : {here : Bool} → here ≡ true → Going k all at b w stack len here → Going k all at b w stack len true
-  at-hand e g = subst (λ (h : Bool). Going k all at b w stack len h) e g
+  pub at_hand : {here : Bool} → here ≡ true → Going k all at b w stack len here → Going k all at b w stack len true
+  at_hand e g = subst (λ (h : Bool). Going k all at b w stack len h) e g
 
-  pub none-at-hand : {here : Bool} → here ≡ false → Going k all at b w stack len here → Going k all at b w stack len false
-  none-at-hand e g = subst (λ (h : Bool). Going k all at b w stack len h) e g
+  pub none_at_hand : {here : Bool} → here ≡ false → Going k all at b w stack len here → Going k all at b w stack len false
+  none_at_hand e g = subst (λ (h : Bool). Going k all at b w stack len h) e g
 
   -- an array of 25 never runs over
   pub room : Accepts j → {here : Bool} → Going k all at b w stack len here → len ≤ 24
-  room ok g = omega (arith, g.deep, levels-fit j ok)
+  room ok g = omega (arith, g.deep, levels_fit j ok)
 
   -- a number that falls from no node pair on is never above what the whole walk comes to
-  pub never-above : (f : W → ℕ) → ((s : NodePair) (y : W) → f y ≤ f (k.walks s y)) → {here : Bool} → Going k all at b w stack len here → f w ≤ f all
-  never-above f grows {here} g =
+  pub never_above : (f : W → ℕ) → ((s : NodePair) (y : W) → f y ≤ f (k.walks s y)) → {here : Bool} → Going k all at b w stack len here → f w ≤ f all
+  never_above f grows {here} g =
       let y : W = ahead k here (pair_at at b) w in
-      subst (λ (z : W). f w ≤ f z) g.owes (omega (arith, ahead-grows k f grows here (pair_at at b) w, resume-grows k f grows b (view len stack) y))
+      subst (λ (z : W). f w ≤ f z) g.owes (omega (arith, ahead_grows k f grows here (pair_at at b) w, resume_grows k f grows b (view len stack) y))
 
   -- and below it, if it rises from each, while a node pair is at hand
-  pub still-below : (f : W → ℕ) → ((s : NodePair) (y : W) → f y < f (k.walks s y)) → Going k all at b w stack len true → f w < f all
-  still-below f rises g =
+  pub still_below : (f : W → ℕ) → ((s : NodePair) (y : W) → f y < f (k.walks s y)) → Going k all at b w stack len true → f w < f all
+  still_below f rises g =
       let y : W = k.walks (pair_at at b) w in
-      subst (λ (z : W). f w < f z) g.owes (omega (arith, rises (pair_at at b) w, resume-grows k f (λ s z. omega (arith, rises s z)) b (view len stack) y))
+      subst (λ (z : W). f w < f z) g.owes (omega (arith, rises (pair_at at b) w, resume_grows k f (λ s z. omega (arith, rises s z)) b (view len stack) y))

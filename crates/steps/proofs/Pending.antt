@@ -7,44 +7,44 @@ use native.Mathlib.Omega.{arith}
 use lib.Ieee.{Float}
 use Rattle.written.specs.Boxes.{Trees, Boxes}
 use Rattle.written.specs.Visits.{Step, goes, forks}
-use Rattle.written.specs.NodePairs.{NodePair, leftPart, rightPart}
+use Rattle.written.specs.NodePairs.{NodePair, left_part, right_part}
 use Rattle.written.specs.Laws.Walks.{Onward}
 use Rattle.written.specs.Laws.RadiusWalk.{Good}
 use Rattle.steps.specs.declared.nodes.Nodes.{Nodes}
 use Rattle.steps.specs.declared.waiting.Waiting.{Waiting}
 use Rattle.steps.specs.declared.waiting.Waiting.TheVariants.{Half, Restore}
 use Rattle.steps.specs.Standing.{pair_at}
-use Rattle.steps.proofs.Halves.{Order, first, second, slot_of, put, waitingBoxes}
+use Rattle.steps.proofs.Halves.{Order, first, second, slot_of, put, waiting_boxes}
 
 -- the levels left below a node pair
-abbrev pub levelsLeft : NodePair → ℕ
-levelsLeft s = s.left.rest + s.right.rest
+abbrev pub levels_left : NodePair → ℕ
+levels_left s = s.left.rest + s.right.rest
 
 abbrev pub OnwardFrom : (j : Trees) → NodePair → Step NodePair → Type 0
-OnwardFrom j s = Onward (leftPart j) (rightPart j) (Good j) (levelsLeft s) s
+OnwardFrom j s = Onward (left_part j) (right_part j) (Good j) (levels_left s) s
 
 -- a node pair below s: good for its turn, with a level less
 pub record BelowIt (j : Trees) (s t : NodePair) : Type 0 where
-  pub good : Good j (levelsLeft t) t
-  pub fewer : suc (levelsLeft t) ≡ levelsLeft s
+  pub good : Good j (levels_left t) t
+  pub fewer : suc (levels_left t) ≡ levels_left s
 
 module _ (j : Trees) where
-  below-it : (d : ℕ) (s t : NodePair) → levelsLeft s ≡ suc d → Good j d t → BelowIt j s t
-  below-it d s t e g = record { good = subst (λ (n : ℕ). Good j n t) g.left_over g; fewer = omega (arith, g.left_over) }
+  below_it : (d : ℕ) (s t : NodePair) → levels_left s ≡ suc d → Good j d t → BelowIt j s t
+  below_it d s t e g = record { good = subst (λ (n : ℕ). Good j n t) g.left_over g; fewer = omega (arith, g.left_over) }
 
-  pub goes-below : (s t : NodePair) → OnwardFrom j s (goes t) → BelowIt j s t
-  goes-below s t o = go (levelsLeft s) refl o
+  pub goes_below : (s t : NodePair) → OnwardFrom j s (goes t) → BelowIt j s t
+  goes_below s t o = go (levels_left s) refl o
     where
-      go : (d : ℕ) → levelsLeft s ≡ d → Onward (leftPart j) (rightPart j) (Good j) d s (goes t) → BelowIt j s t
+      go : (d : ℕ) → levels_left s ≡ d → Onward (left_part j) (right_part j) (Good j) d s (goes t) → BelowIt j s t
       go zero q o = absurd o
-      go (suc d) q o = below-it d s t q o.0
+      go (suc d) q o = below_it d s t q o.0
 
-  pub forks-below : (s t u : NodePair) → OnwardFrom j s (forks t u) → BelowIt j s t × BelowIt j s u
-  forks-below s t u o = go (levelsLeft s) refl o
+  pub forks_below : (s t u : NodePair) → OnwardFrom j s (forks t u) → BelowIt j s t × BelowIt j s u
+  forks_below s t u o = go (levels_left s) refl o
     where
-      go : (d : ℕ) → levelsLeft s ≡ d → Onward (leftPart j) (rightPart j) (Good j) d s (forks t u) → BelowIt j s t × BelowIt j s u
+      go : (d : ℕ) → levels_left s ≡ d → Onward (left_part j) (right_part j) (Good j) d s (forks t u) → BelowIt j s t × BelowIt j s u
       go zero q o = absurd o
-      go (suc d) q o = (below-it d s t q o.0, below-it d s u q o.1)
+      go (suc d) q o = (below_it d s t q o.0, below_it d s u q o.1)
 
 -- ---- a walk, W being what it does
 
@@ -56,14 +56,14 @@ pub record Walk (j : Trees) (W : Type 0) : Type 0 where
   pub next : W → NodePair → Step NodePair
   -- one node pair more is examined
   pub examined : W → W
-  pub on-goes : (s t : NodePair) (w : W) → next w s ≡ goes t → OnwardFrom j s (goes t) → walks s w ≡ walks t (examined w)
-  pub on-forks : (s t u : NodePair) (w : W) → next w s ≡ forks t u → OnwardFrom j s (forks t u) → walks s w ≡ walks (second order t u) (walks (first order t u) (examined w))
+  pub on_goes : (s t : NodePair) (w : W) → next w s ≡ goes t → OnwardFrom j s (goes t) → walks s w ≡ walks t (examined w)
+  pub on_forks : (s t u : NodePair) (w : W) → next w s ≡ forks t u → OnwardFrom j s (forks t u) → walks s w ≡ walks (second order t u) (walks (first order t u) (examined w))
 
 module _ {j : Trees} {W : Type 0} (k : Walk j W) where
   -- what is left to do for the entries that wait, the first being taken first, where the boxes are b
   unfoldable pub resume : Boxes → List Waiting → W → W
   resume b [] w = w
-  resume b (Half side axis lo hi v at ∷ ws) w = resume (put (slot_of side axis) lo hi b) ws (k.walks (pair_at at (waitingBoxes k.order (slot_of side axis) lo hi v b)) w)
+  resume b (Half side axis lo hi v at ∷ ws) w = resume (put (slot_of side axis) lo hi b) ws (k.walks (pair_at at (waiting_boxes k.order (slot_of side axis) lo hi v b)) w)
   resume b (Restore side axis lo hi ∷ ws) w = resume (put (slot_of side axis) lo hi b) ws w
 
   -- the node pair at hand comes first, where there is one
@@ -71,29 +71,29 @@ module _ {j : Trees} {W : Type 0} (k : Walk j W) where
   ahead true s w = k.walks s w
   ahead false s w = w
 
-  pub resume-none : (b : Boxes) (w : W) → resume b [] w ≡ w
+  pub resume_none : (b : Boxes) (w : W) → resume b [] w ≡ w
   unfolding resume
-  resume-none b w = refl
+  resume_none b w = refl
 
-  pub resume-half : (b : Boxes) (side axis : ℕ) (lo hi v : Float) (at : Nodes) (ws : List Waiting) (w : W)
-      → resume b (Half side axis lo hi v at ∷ ws) w ≡ resume (put (slot_of side axis) lo hi b) ws (k.walks (pair_at at (waitingBoxes k.order (slot_of side axis) lo hi v b)) w)
+  pub resume_half : (b : Boxes) (side axis : ℕ) (lo hi v : Float) (at : Nodes) (ws : List Waiting) (w : W)
+      → resume b (Half side axis lo hi v at ∷ ws) w ≡ resume (put (slot_of side axis) lo hi b) ws (k.walks (pair_at at (waiting_boxes k.order (slot_of side axis) lo hi v b)) w)
   unfolding resume
-  resume-half b side axis lo hi v at ws w = refl
+  resume_half b side axis lo hi v at ws w = refl
 
-  pub resume-back : (b : Boxes) (side axis : ℕ) (lo hi : Float) (ws : List Waiting) (w : W) → resume b (Restore side axis lo hi ∷ ws) w ≡ resume (put (slot_of side axis) lo hi b) ws w
+  pub resume_back : (b : Boxes) (side axis : ℕ) (lo hi : Float) (ws : List Waiting) (w : W) → resume b (Restore side axis lo hi ∷ ws) w ≡ resume (put (slot_of side axis) lo hi b) ws w
   unfolding resume
-  resume-back b side axis lo hi ws w = refl
+  resume_back b side axis lo hi ws w = refl
 
   -- a number that falls from no node pair on does not fall for the entries that wait
   module _ (f : W → ℕ) (grows : (s : NodePair) (w : W) → f w ≤ f (k.walks s w)) where
-    pub resume-grows : (b : Boxes) (ws : List Waiting) (w : W) → f w ≤ f (resume b ws w)
+    pub resume_grows : (b : Boxes) (ws : List Waiting) (w : W) → f w ≤ f (resume b ws w)
     unfolding resume
-    resume-grows b [] w = omega arith
-    resume-grows b (Half side axis lo hi v at ∷ ws) w =
-        let s : NodePair = pair_at at (waitingBoxes k.order (slot_of side axis) lo hi v b) in
-        omega (arith, grows s w, resume-grows (put (slot_of side axis) lo hi b) ws (k.walks s w))
-    resume-grows b (Restore side axis lo hi ∷ ws) w = resume-grows (put (slot_of side axis) lo hi b) ws w
+    resume_grows b [] w = omega arith
+    resume_grows b (Half side axis lo hi v at ∷ ws) w =
+        let s : NodePair = pair_at at (waiting_boxes k.order (slot_of side axis) lo hi v b) in
+        omega (arith, grows s w, resume_grows (put (slot_of side axis) lo hi b) ws (k.walks s w))
+    resume_grows b (Restore side axis lo hi ∷ ws) w = resume_grows (put (slot_of side axis) lo hi b) ws w
 
-    pub ahead-grows : (here : Bool) (s : NodePair) (w : W) → f w ≤ f (ahead here s w)
-    ahead-grows true s w = grows s w
-    ahead-grows false s w = omega arith
+    pub ahead_grows : (here : Bool) (s : NodePair) (w : W) → f w ≤ f (ahead here s w)
+    ahead_grows true s w = grows s w
+    ahead_grows false s w = omega arith

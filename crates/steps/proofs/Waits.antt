@@ -13,7 +13,7 @@ use Rattle.steps.specs.declared.waiting.Waiting.{Waiting}
 use Rattle.steps.specs.declared.waiting.Waiting.TheVariants.{Half}
 use Rattle.steps.specs.declared.waiting.Popped.{Popped}
 use Rattle.steps.specs.declared.waiting.Popped.TheVariants.{Entry, Nothing}
-use Rattle.steps.specs.Popping.{poppedOf}
+use Rattle.steps.specs.Popping.{popped_of}
 
 -- what is read past the end of the array
 abbrev nowhere : Cursor
@@ -27,16 +27,16 @@ abbrev pub view : ℕ → List Waiting → List Waiting
 view zero s = []
 view (suc n) s = get_or s n blank ∷ view n s
 
-view-set : (n i : ℕ) (s : List Waiting) (w : Waiting) → n ≤ i → view n (set s i w) ≡ view n s
-view-set zero i s w h = refl
-view-set (suc n) i s w h = ap₂ ◌∷◌ (get_or-set_other s i n w blank (λ e. omega arith)) (view-set n i s w (omega arith))
+view_set : (n i : ℕ) (s : List Waiting) (w : Waiting) → n ≤ i → view n (set s i w) ≡ view n s
+view_set zero i s w h = refl
+view_set (suc n) i s w h = ap₂ ◌∷◌ (get_or-set_other s i n w blank (λ e. omega arith)) (view_set n i s w (omega arith))
 
-pub view-push : (n : ℕ) (s : List Waiting) (w : Waiting) → n < length s → view (n + 1) (set s n w) ≡ w ∷ view n s
-view-push n s w h = rw add-one (ap₂ ◌∷◌ (get_or-set_same s n w blank h) (view-set n n s w (omega arith)))
+pub view_push : (n : ℕ) (s : List Waiting) (w : Waiting) → n < length s → view (n + 1) (set s n w) ≡ w ∷ view n s
+view_push n s w h = rw add-one (ap₂ ◌∷◌ (get_or-set_same s n w blank h) (view_set n n s w (omega arith)))
 
-pub view-length : (n : ℕ) (s : List Waiting) → length (view n s) ≡ n
-view-length zero s = refl
-view-length (suc n) s = ap suc (view-length n s)
+pub view_length : (n : ℕ) (s : List Waiting) → length (view n s) ≡ n
+view_length zero s = refl
+view_length (suc n) s = ap suc (view_length n s)
 
 -- ---- what is taken
 
@@ -45,19 +45,19 @@ taken [] = Nothing
 taken (w ∷ ws) = Entry w
 
 -- the code's pop, of the entry that it read at the top, takes the first of the list
-pub pop-takes : (n top : ℕ) (s : List Waiting) (r : Popped) → top ≡ n - 1 → r ≡ poppedOf n (get_or s top blank) → taken (view n s) ≡ r
-pop-takes zero top s r e h = sym h
-pop-takes (suc n) top s r e h =
+pub pop_takes : (n top : ℕ) (s : List Waiting) (r : Popped) → top ≡ n - 1 → r ≡ popped_of n (get_or s top blank) → taken (view n s) ≡ r
+pop_takes zero top s r e h = sym h
+pop_takes (suc n) top s r e h =
     let k : suc n - 1 ≡ n = omega arith in
     ap (λ (i : ℕ). Entry (get_or s i blank)) (sym (e ∙ k)) ∙ sym (h ∙ simp (ne_eqb (suc n) 0 (λ z. omega arith)))
 
-pub none-taken : (ws : List Waiting) → taken ws ≡ Nothing → ws ≡ []
-none-taken [] e = refl
-none-taken (w ∷ ws) e = let z : ◌≡◌ {A = ℕ} 0 1 = cc in absurd (omega arith)
+pub none_taken : (ws : List Waiting) → taken ws ≡ Nothing → ws ≡ []
+none_taken [] e = refl
+none_taken (w ∷ ws) e = let z : ◌≡◌ {A = ℕ} 0 1 = cc in absurd (omega arith)
 
-pub some-taken : (n : ℕ) (s : List Waiting) {w : Waiting} → taken (view n s) ≡ Entry w → (0 < n) × (view n s ≡ w ∷ view (n - 1) s)
-some-taken zero s e = let z : ◌≡◌ {A = ℕ} 0 1 = cc in absurd (omega arith)
-some-taken (suc n) s {w} e =
+pub some_taken : (n : ℕ) (s : List Waiting) {w : Waiting} → taken (view n s) ≡ Entry w → (0 < n) × (view n s ≡ w ∷ view (n - 1) s)
+some_taken zero s e = let z : ◌≡◌ {A = ℕ} 0 1 = cc in absurd (omega arith)
+some_taken (suc n) s {w} e =
     let k : suc n - 1 ≡ n = omega arith in
     let f : get_or s n blank ≡ w = cc in
     (omega arith, rw (k, f))

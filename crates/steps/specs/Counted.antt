@@ -5,13 +5,13 @@ use Rattle.written.specs.Totals.{Totals}
 use Rattle.answer.specs.Told.{totalsIn}
 use Rattle.steps.specs.declared.tally.Tally.{Tally}
 
-abbrev pub totalsHeld : Tally → Totals
-totalsHeld t = totalsIn t.totals
+abbrev pub totals_held : Tally → Totals
+totals_held t = totalsIn t.totals
 
 -- one node pair more is examined
 abbrev pub visited : Totals → Totals
-visited t = record { visits = suc t.visits; measured = t.measured; ruledOut = t.ruledOut; whole = t.whole }
+visited t = record { visits = suc t.visits; measured = t.measured; ruled_out = t.ruled_out; whole = t.whole }
 
 -- n pairs of places more have this fate
 abbrev pub adding : Fate → ℕ → Totals → Totals
-adding k n t = record { visits = t.visits; measured = t.measured + is measured k * n; ruledOut = t.ruledOut + is ruled k * n; whole = t.whole + is whole k * n }
+adding k n t = record { visits = t.visits; measured = t.measured + is measured k * n; ruled_out = t.ruled_out + is ruled k * n; whole = t.whole + is whole k * n }

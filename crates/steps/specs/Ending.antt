@@ -6,6 +6,6 @@ use Rattle.steps.specs.declared.nodes.Nodes.{Nodes}
 use Rattle.steps.specs.Standing.{Within}
 
 pub record Leaves (K : ℕ) (lstarts litems : List ℕ) (lcoords : List Float) (rstarts ritems : List ℕ) (rcoords : List Float) (at : Nodes) : Type 0 where
-  pub left-within : Within lstarts (node_of at.left)
-  pub right-within : Within rstarts (node_of at.right)
+  pub left_within : Within lstarts (node_of at.left)
+  pub right_within : Within rstarts (node_of at.right)
   pub pair : LeafPair K litems lcoords (get_or lstarts at.left.first.0 0) (get_or lstarts at.left.end.0 0) ritems rcoords (get_or rstarts at.right.first.0 0) (get_or rstarts at.right.end.0 0)

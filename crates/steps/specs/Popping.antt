@@ -4,5 +4,5 @@ use Rattle.steps.specs.declared.waiting.Waiting.{Waiting}
 use Rattle.steps.specs.declared.waiting.Popped.{Popped}
 use Rattle.steps.specs.declared.waiting.Popped.TheVariants.{Entry, Nothing}
 
-abbrev pub poppedOf : ℕ → Waiting → Popped
-poppedOf len top = cond (eqb len 0) Nothing (Entry top)
+abbrev pub popped_of : ℕ → Waiting → Popped
+popped_of len top = cond (eqb len 0) Nothing (Entry top)

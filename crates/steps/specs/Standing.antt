@@ -3,7 +3,7 @@ use Rattle.std.specs.Prelude.{◌≡◌, List, ℕ, ◌-◌, ◌≤◌, ◌<◌,
 use Rattle.std.specs.Float.{nan}
 use Rattle.written.specs.LentTree.{Cursor, near, far, axis}
 use Rattle.written.specs.Boxes.{Boxes}
-use Rattle.written.specs.NodePairs.{NodePair, onSide, moved}
+use Rattle.written.specs.NodePairs.{NodePair, on_side, moved}
 use Rattle.cursor.specs.Held.{node_of, Splits, side_of}
 use Rattle.steps.specs.declared.nodes.Nodes.{Nodes}
 use Rattle.steps.specs.declared.descent.Descent.{Descent}
@@ -32,17 +32,17 @@ points_of starts c = get_or starts c.end 0 - get_or starts c.first 0
 
 -- the node on the side that is split
 abbrev pub chosen : ℕ → Nodes → Cursor
-chosen side at = onSide (side_of side) (node_of at.left) (node_of at.right)
+chosen side at = on_side (side_of side) (node_of at.left) (node_of at.right)
 
 -- it splits, and its pivot is among its tree's stems
 pub record SplitsAt (K : ℕ) (lstems rstems : List Float) (side : ℕ) (at : Nodes) : Type 0 where
-  pub some-axis : 0 < K
+  pub some_axis : 0 < K
   pub splits : Splits (chosen side at)
-  pub stem-read : (chosen side at).stem < length (onSide (side_of side) lstems rstems)
+  pub stem_read : (chosen side at).stem < length (on_side (side_of side) lstems rstems)
 
 -- both halves, the axis, and the pivot
 pub record Descended (K : ℕ) (lstems rstems : List Float) (side : ℕ) (at : Nodes) (r : Descent) : Type 0 where
-  pub to-near : (b : Boxes) → pair_at r.near b ≡ moved (side_of side) (near (chosen side at)) b (pair_at at b)
-  pub to-far : (b : Boxes) → pair_at r.far b ≡ moved (side_of side) (far (chosen side at)) b (pair_at at b)
-  pub on-axis : r.axis ≡ axis K (chosen side at)
-  pub by-pivot : r.pivot ≡ get_or (onSide (side_of side) lstems rstems) (chosen side at).stem nan
+  pub to_near : (b : Boxes) → pair_at r.near b ≡ moved (side_of side) (near (chosen side at)) b (pair_at at b)
+  pub to_far : (b : Boxes) → pair_at r.far b ≡ moved (side_of side) (far (chosen side at)) b (pair_at at b)
+  pub on_axis : r.axis ≡ axis K (chosen side at)
+  pub by_pivot : r.pivot ≡ get_or (on_side (side_of side) lstems rstems) (chosen side at).stem nan

@@ -1,7 +1,7 @@
 // A node of each tree, and where a side's numbers stand in the boxes.
 ghost use Rattle.std.specs.Prelude.{◌≡◌, ◌+◌, ◌-◌, ◌*◌, ◌<◌, ◌≤◌, length};
-ghost use Rattle.written.specs.NodePairs.{onSide, corner};
-ghost use Rattle.cursor.specs.Held.{node_of, rootOver, side_of};
+ghost use Rattle.written.specs.NodePairs.{on_side, corner};
+ghost use Rattle.cursor.specs.Held.{node_of, root_over, side_of};
 ghost use Rattle.steps.specs.Standing.{Within, points_of};
 
 use cursor::Cursor;
@@ -15,7 +15,7 @@ pub struct Nodes {
 // The root of each tree.
 pub fn roots(lstarts: &[u32], rstarts: &[u32]) -> Nodes
     requires { (1 ≤ length lstarts.now) × (length lstarts.now ≤ 4097) × (1 ≤ length rstarts.now) × (length rstarts.now ≤ 4097) }
-    ensures { (node_of result.left ≡ rootOver (length lstarts.now - 1)) × (node_of result.right ≡ rootOver (length rstarts.now - 1)) }
+    ensures { (node_of result.left ≡ root_over (length lstarts.now - 1)) × (node_of result.right ≡ root_over (length rstarts.now - 1)) }
 {
     let left = Cursor::root((lstarts.len() - 1) as u32);
     let right = Cursor::root((rstarts.len() - 1) as u32);
@@ -24,7 +24,7 @@ pub fn roots(lstarts: &[u32], rstarts: &[u32]) -> Nodes
 
 // The node on a side (0 left, 1 right).
 pub fn cursor_of(side: usize, at: Nodes) -> Cursor
-    ensures { result ≡ onSide (side_of side) at.left at.right }
+    ensures { result ≡ on_side (side_of side) at.left at.right }
 {
     if side == 0 {
         return at.left;

@@ -1,15 +1,15 @@
 // Whether a visit is at two leaves, and if not, which side it splits.
 ghost use Rattle.std.specs.Prelude.{◌≡◌, ◌&&◌, []};
-ghost use Rattle.written.specs.LentTree.{isLeaf};
-ghost use Rattle.written.specs.NodePairs.{splitsRight};
-ghost use Rattle.metric.specs.Flat.{boxesOf};
+ghost use Rattle.written.specs.LentTree.{is_leaf};
+ghost use Rattle.written.specs.NodePairs.{splits_right};
+ghost use Rattle.metric.specs.Flat.{boxes_of};
 ghost use Rattle.cursor.specs.Held.{node_of};
 ghost use Rattle.steps.specs.Standing.{pair_at, Ordered};
 
 use crate::nodes::Nodes;
 
 pub fn both_leaves(at: Nodes) -> bool
-    ensures { result ≡ (isLeaf (node_of at.left) && isLeaf (node_of at.right)) }
+    ensures { result ≡ (is_leaf (node_of at.left) && is_leaf (node_of at.right)) }
 {
     if !at.left.is_leaf() {
         return false;
@@ -20,7 +20,7 @@ pub fn both_leaves(at: Nodes) -> bool
 // Split the left, unless it is a leaf, or the right isn't and spans more leaves.
 pub fn splits_right(at: Nodes) -> bool
     requires { Ordered at }
-    ensures { result ≡ splitsRight (pair_at at (boxesOf [] [])) }
+    ensures { result ≡ splits_right (pair_at at (boxes_of [] [])) }
 {
     if at.left.is_leaf() {
         return true;

@@ -2,7 +2,7 @@
 ghost use Rattle.std.specs.Prelude.{◌≡◌, ◌+◌, ◌^◌, ◌<◌};
 ghost use Rattle.written.specs.Totals.{none};
 ghost use Rattle.written.specs.Visits.{ruled, whole, measured};
-ghost use Rattle.steps.specs.Counted.{totalsHeld, visited, adding};
+ghost use Rattle.steps.specs.Counted.{totals_held, visited, adding};
 
 use answer::Totals;
 
@@ -14,7 +14,7 @@ pub struct Tally {
 
 impl Tally {
     pub fn none() -> Self
-        ensures { (result.found ≡ 0) × (totalsHeld result ≡ none) }
+        ensures { (result.found ≡ 0) × (totals_held result ≡ none) }
     {
         Self {
             found: 0,
@@ -30,7 +30,7 @@ impl Tally {
     // One node pair more is examined.
     pub fn visited(self) -> Self
         requires { self.totals.visits < 2 ^ 63 }
-        ensures { (result.found ≡ self.found) × (totalsHeld result ≡ visited (totalsHeld self)) }
+        ensures { (result.found ≡ self.found) × (totals_held result ≡ visited (totals_held self)) }
     {
         let mut t = self;
         let visits = t.totals.visits + 1;
@@ -41,7 +41,7 @@ impl Tally {
     // n pairs of places are ruled out.
     pub fn ruled_out(self, n: u64) -> Self
         requires { self.totals.ruled + n < 2 ^ 63 }
-        ensures { (result.found ≡ self.found) × (totalsHeld result ≡ adding ruled n (totalsHeld self)) }
+        ensures { (result.found ≡ self.found) × (totals_held result ≡ adding ruled n (totals_held self)) }
     {
         let mut t = self;
         let ruled = t.totals.ruled + n;
@@ -52,7 +52,7 @@ impl Tally {
     // n pairs of places are taken whole, and so found.
     pub fn taken_whole(self, n: u64) -> Self
         requires { (self.totals.whole + n < 2 ^ 63) × (self.found + n < 2 ^ 63) }
-        ensures { (result.found ≡ self.found + n) × (totalsHeld result ≡ adding whole n (totalsHeld self)) }
+        ensures { (result.found ≡ self.found + n) × (totals_held result ≡ adding whole n (totals_held self)) }
     {
         let mut t = self;
         let whole = t.totals.whole + n;
@@ -64,7 +64,7 @@ impl Tally {
     // n pairs of places are measured; `found` are found by now.
     pub fn measured(self, n: u64, found: u64) -> Self
         requires { self.totals.measured + n < 2 ^ 63 }
-        ensures { (result.found ≡ found) × (totalsHeld result ≡ adding measured n (totalsHeld self)) }
+        ensures { (result.found ≡ found) × (totals_held result ≡ adding measured n (totals_held self)) }
     {
         let mut t = self;
         let measured = t.totals.measured + n;

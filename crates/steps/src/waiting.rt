@@ -1,6 +1,6 @@
 // What waits: the half that is taken second, with its saved box side and pivot, or a box side to put back (the source's `Frame`). The radius walk takes the far half second, nearest the near one.
 ghost use Rattle.std.specs.Prelude.{◌≡◌, ◌-◌};
-ghost use Rattle.steps.specs.Popping.{poppedOf};
+ghost use Rattle.steps.specs.Popping.{popped_of};
 
 use crate::nodes::Nodes;
 
@@ -37,7 +37,7 @@ pub fn top_of(len: usize) -> usize
 
 // What is taken from len entries, the last being `top`.
 pub fn pop(len: usize, top: Waiting) -> Popped
-    ensures { result ≡ poppedOf len top }
+    ensures { result ≡ popped_of len top }
 {
     if len == 0 {
         return Popped::Nothing;

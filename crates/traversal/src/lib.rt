@@ -3,9 +3,9 @@ ghost use Rattle.std.specs.Prelude.{◌≡◌};
 ghost use Rattle.written.specs.Answers.{Accepts};
 ghost use Rattle.metric.specs.Edges.{edge_of};
 ghost use Rattle.rooms.specs.Rooms.{SameRooms};
-ghost use Rattle.trees.specs.Lent.{treesOf};
+ghost use Rattle.trees.specs.Lent.{trees_of};
 ghost use Rattle.answer.specs.Rooms.{rooms_of};
-ghost use Rattle.radiusvisit.specs.Work.{workOf};
+ghost use Rattle.radiusvisit.specs.Work.{work_of};
 ghost use Rattle.traversal.specs.Walked.{walked};
 
 use metric::Boxes;
@@ -34,9 +34,9 @@ pub fn walk<'a>(
     rout: &mut [u32],
     dout: &mut [f64],
 ) -> Tally
-    requires accepts { Accepts (treesOf k lstarts.now lstems.now litems.now lcoords.now rstarts.now rstems.now ritems.now rcoords.now) }
+    requires accepts { Accepts (trees_of k lstarts.now lstems.now litems.now lcoords.now rstarts.now rstems.now ritems.now rcoords.now) }
     requires same_rooms { SameRooms lout.old rout.old dout.old }
-    ensures { workOf result lout.new rout.new dout.new ≡ walked (treesOf k lstarts.now lstems.now litems.now lcoords.now rstarts.now rstems.now ritems.now rcoords.now) (edge_of under) radius counting (rooms_of lout.old rout.old dout.old) }
+    ensures { work_of result lout.new rout.new dout.new ≡ walked (trees_of k lstarts.now lstems.now litems.now lcoords.now rstarts.now rstems.now ritems.now rcoords.now) (edge_of under) radius counting (rooms_of lout.old rout.old dout.old) }
 {
     let mut at = roots(lstarts, rstarts);
     let mut b = Boxes::everywhere();

@@ -3,7 +3,7 @@ use Rattle.std.specs.Prelude.{List, Bool, not, ◌&&◌, ◌||◌, ℕ, length, 
 use Rattle.std.specs.Float.{nan}
 use Rattle.std.specs.Float.Ieee.{lt}
 use Rattle.written.specs.LentTree.{Tree, Cursor, Node}
-use Rattle.written.specs.Check.{every, is_top, rule₁, rule₂, rule₃, rule₄, leftOk, rightOk, topOk}
+use Rattle.written.specs.Check.{every, is_top, rule₁, rule₂, rule₃, rule₄, left_ok, right_ok, top_ok}
 use Rattle.written.specs.Rules.{Kept}
 
 abbrev pub tree_of : List ℕ → List Float → List ℕ → List Float → Tree
@@ -18,19 +18,19 @@ pub record Sized (K : ℕ) (t : Tree) : Type 0 where
 pub record Stands (K : ℕ) (t : Tree) (c : Cursor) : Type 0 where
   pub sized : Sized K t
   pub lengths : Kept K t rule₃
-  pub starts-kept : Kept K t rule₄
+  pub starts_kept : Kept K t rule₄
   pub node : Node t c
 
 -- rule 7 for the coordinates of two halves on one axis
-abbrev pub noneAbove : List Float → Float → Bool
-noneAbove l pivot = every (λ i. not (lt pivot (get_or l i nan))) 0 (length l)
+abbrev pub none_above : List Float → Float → Bool
+none_above l pivot = every (λ i. not (lt pivot (get_or l i nan))) 0 (length l)
 
-abbrev pub noneBelow : List Float → Float → Bool
-noneBelow l pivot = every (λ i. not (lt (get_or l i nan) pivot)) 0 (length l)
+abbrev pub none_below : List Float → Float → Bool
+none_below l pivot = every (λ i. not (lt (get_or l i nan) pivot)) 0 (length l)
 
-abbrev pub halvesOk : List Float → List Float → Float → Bool
-halvesOk left right pivot = noneAbove left pivot && noneBelow right pivot && (not (is_top pivot) || eqb (length right) 0)
+abbrev pub halves_ok : List Float → List Float → Float → Bool
+halves_ok left right pivot = none_above left pivot && none_below right pivot && (not (is_top pivot) || eqb (length right) 0)
 
 -- rule 7 at one node
 abbrev pub order_at : ℕ → Tree → Cursor → Bool
-order_at K t c = leftOk K t c && rightOk K t c && topOk K t c
+order_at K t c = left_ok K t c && right_ok K t c && top_ok K t c

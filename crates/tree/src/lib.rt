@@ -1,7 +1,7 @@
 // The check of one lent tree: rules 1 to 7 of the table, in that order. Added by the port.
 ghost use Rattle.std.specs.Prelude.{◌≡◌, [], ◌≤◌};
-ghost use Rattle.written.specs.LentTree.{stemCount};
-ghost use Rattle.written.specs.Check.{axesOk, sizesOk, lengthsOk, coordsOk, refusal as refusalOf};
+ghost use Rattle.written.specs.LentTree.{stem_count};
+ghost use Rattle.written.specs.Check.{axes_ok, sizes_ok, lengths_ok, coords_ok, refusal as refusalOf};
 ghost use Rattle.tree.specs.Lent.{tree_of, Sized};
 
 use cursor::Cursor;
@@ -12,7 +12,7 @@ mod starts;
 
 // 1: K is 1 to 4.
 fn axes_ok(k: u32) -> bool
-    ensures { result ≡ axesOk k (tree_of [] [] [] []) }
+    ensures { result ≡ axes_ok k (tree_of [] [] [] []) }
 {
     if k < 1 {
         return false;
@@ -22,7 +22,7 @@ fn axes_ok(k: u32) -> bool
 
 // 2: some starts, at most 4,097 starts and 65,536 items.
 fn sizes_ok(starts: &[u32], items: &[u32]) -> bool
-    ensures { result ≡ sizesOk 0 (tree_of starts.now [] items.now []) }
+    ensures { result ≡ sizes_ok 0 (tree_of starts.now [] items.now []) }
 {
     if starts.len() < 1 {
         return false;
@@ -36,7 +36,7 @@ fn sizes_ok(starts: &[u32], items: &[u32]) -> bool
 // The stems over m leaves: none below two leaves, else the next power of two.
 pub fn stem_count(m: u32) -> usize
     requires { m ≤ 4096 }
-    ensures { result ≡ stemCount m }
+    ensures { result ≡ stem_count m }
 {
     if m < 2 {
         return 0;
@@ -47,7 +47,7 @@ pub fn stem_count(m: u32) -> usize
 // 3: stems and coordinates of the right length.
 fn lengths_ok(k: u32, starts: &[u32], stems: &[f64], items: &[u32], coords: &[f64]) -> bool
     requires { Sized k (tree_of starts.now stems.now items.now coords.now) }
-    ensures { result ≡ lengthsOk k (tree_of starts.now stems.now items.now coords.now) }
+    ensures { result ≡ lengths_ok k (tree_of starts.now stems.now items.now coords.now) }
 {
     if stems.len() != stem_count((starts.len() - 1) as u32) {
         return false;
@@ -57,7 +57,7 @@ fn lengths_ok(k: u32, starts: &[u32], stems: &[f64], items: &[u32], coords: &[f6
 
 // 5: each coordinate is finite.
 fn coords_ok(coords: &[f64]) -> bool
-    ensures { result ≡ coordsOk 0 (tree_of [] [] [] coords.now) }
+    ensures { result ≡ coords_ok 0 (tree_of [] [] [] coords.now) }
 {
     let mut i = 0;
     while i < coords.len() {

@@ -3,7 +3,7 @@ ghost use Rattle.std.specs.Prelude.{◌≡◌, cond, ◌<◌};
 ghost use Rattle.std.specs.Float.Ieee.{lt};
 ghost use Rattle.written.specs.Check.{down};
 ghost use Rattle.cursor.specs.Held.{node_of};
-ghost use Rattle.tree.specs.Lent.{tree_of, Stands, noneAbove, noneBelow, halvesOk, order_at};
+ghost use Rattle.tree.specs.Lent.{tree_of, Stands, none_above, none_below, halves_ok, order_at};
 
 use cursor::Cursor;
 
@@ -15,7 +15,7 @@ fn below(x: f64, y: f64) -> u64
 }
 
 fn none_above(part: &[f64], pivot: f64) -> bool
-    ensures { result ≡ noneAbove part.now pivot }
+    ensures { result ≡ none_above part.now pivot }
 {
     let mut n = 0;
     let mut i = 0;
@@ -27,7 +27,7 @@ fn none_above(part: &[f64], pivot: f64) -> bool
 }
 
 fn none_below(part: &[f64], pivot: f64) -> bool
-    ensures { result ≡ noneBelow part.now pivot }
+    ensures { result ≡ none_below part.now pivot }
 {
     let mut n = 0;
     let mut i = 0;
@@ -40,7 +40,7 @@ fn none_below(part: &[f64], pivot: f64) -> bool
 
 // The node's own pivot, against the coordinates of its two halves on its axis.
 fn halves_ok(left: &[f64], right: &[f64], pivot: f64) -> bool
-    ensures { result ≡ halvesOk left.now right.now pivot }
+    ensures { result ≡ halves_ok left.now right.now pivot }
 {
     if !none_above(left, pivot) {
         return false;

@@ -1,13 +1,13 @@
 // Rule 6: a node over at least one leaf has a pivot that is neither NaN nor -inf.
 ghost use Rattle.std.specs.Prelude.{◌≡◌, ◌<◌};
-ghost use Rattle.written.specs.Check.{down, noPivot, pivotOk};
+ghost use Rattle.written.specs.Check.{down, no_pivot, pivot_ok};
 ghost use Rattle.cursor.specs.Held.{node_of};
 ghost use Rattle.tree.specs.Lent.{tree_of, Stands};
 
 use cursor::Cursor;
 
 fn no_pivot(x: f64) -> bool
-    ensures { result ≡ noPivot x }
+    ensures { result ≡ no_pivot x }
 {
     if x != x {
         return true;
@@ -17,7 +17,7 @@ fn no_pivot(x: f64) -> bool
 
 fn pivot_ok(k: u32, starts: &[u32], stems: &[f64], items: &[u32], coords: &[f64], c: Cursor) -> bool
     requires { Stands k (tree_of starts.now stems.now items.now coords.now) (node_of c) × (0 < c.remaining) }
-    ensures { result ≡ pivotOk k (tree_of starts.now stems.now items.now coords.now) (node_of c) }
+    ensures { result ≡ pivot_ok k (tree_of starts.now stems.now items.now coords.now) (node_of c) }
 {
     if c.span() == 0 {
         return true;
@@ -36,7 +36,7 @@ pub fn pivots_ok(
     c: Cursor,
 ) -> bool
     requires { Stands k (tree_of starts.now stems.now items.now coords.now) (node_of c) }
-    ensures { result ≡ down (pivotOk k (tree_of starts.now stems.now items.now coords.now)) c.remaining (node_of c) }
+    ensures { result ≡ down (pivot_ok k (tree_of starts.now stems.now items.now coords.now)) c.remaining (node_of c) }
 {
     if c.remaining == 0 {
         return true;

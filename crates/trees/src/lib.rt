@@ -1,7 +1,7 @@
 // Two lent trees of one call: the left is checked wholly, then the right.
 ghost use Rattle.std.specs.Prelude.{◌≡◌};
-ghost use Rattle.written.specs.Answers.{told, leftRefusal, rightRefusal};
-ghost use Rattle.trees.specs.Lent.{treesOf};
+ghost use Rattle.written.specs.Answers.{told, left_refusal, right_refusal};
+ghost use Rattle.trees.specs.Lent.{trees_of};
 
 // The number of the first rule broken and the side of its tree; 0 and 0 where both are accepted.
 #[derive(Drop)]
@@ -21,7 +21,7 @@ pub fn refusal(
     ritems: &[u32],
     rcoords: &[f64],
 ) -> Refused
-    ensures { (result.number, result.side) ≡ told (leftRefusal (treesOf k lstarts.now lstems.now litems.now lcoords.now rstarts.now rstems.now ritems.now rcoords.now)) (rightRefusal (treesOf k lstarts.now lstems.now litems.now lcoords.now rstarts.now rstems.now ritems.now rcoords.now)) }
+    ensures { (result.number, result.side) ≡ told (left_refusal (trees_of k lstarts.now lstems.now litems.now lcoords.now rstarts.now rstems.now ritems.now rcoords.now)) (right_refusal (trees_of k lstarts.now lstems.now litems.now lcoords.now rstarts.now rstems.now ritems.now rcoords.now)) }
 {
     let left = tree::refusal(k, lstarts, lstems, litems, lcoords);
     if left != 0 {

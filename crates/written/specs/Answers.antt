@@ -5,8 +5,8 @@ use Rattle.written.specs.LentTree.{places}
 use Rattle.written.specs.Check.{refusal}
 use Rattle.written.specs.Boxes.{Trees, Edge}
 use Rattle.written.specs.RadiusWalk.{Found, found, count}
-use Rattle.written.specs.Nearest.{Neighbour, nearest, noPoints}
-use Rattle.written.specs.Totals.{Totals, none, walkTotals, nearTotals}
+use Rattle.written.specs.Nearest.{Neighbour, nearest, no_points}
+use Rattle.written.specs.Totals.{Totals, none, walk_totals, near_totals}
 
 -- the refusal's number (0 when nothing is refused), its side (0 left, 1 right), the number found or written, and the totals
 pub record Answer : Type 0 where
@@ -31,15 +31,15 @@ checked refuse (suc n) right goesOn = refuse (suc n) 0
 abbrev pub told : (left right : ℕ) → ℕ × ℕ
 told left right = checked (λ number side. (number, side)) left right (0, 0)
 
-abbrev pub leftRefusal : Trees → ℕ
-leftRefusal j = refusal j.axes j.left
+abbrev pub left_refusal : Trees → ℕ
+left_refusal j = refusal j.axes j.left
 
-abbrev pub rightRefusal : Trees → ℕ
-rightRefusal j = refusal j.axes j.right
+abbrev pub right_refusal : Trees → ℕ
+right_refusal j = refusal j.axes j.right
 
 -- the check accepts both trees
 abbrev pub Accepts : Trees → Type 0
-Accepts j = (leftRefusal j ≡ 0) × (rightRefusal j ≡ 0)
+Accepts j = (left_refusal j ≡ 0) × (right_refusal j ≡ 0)
 
 -- the first that fit are stored; beyond what is stored, the buffer stays untouched
 unfoldable pub stored : {X : Type 0} → List X → List X → List X
@@ -53,28 +53,28 @@ pub record PairRooms : Type 0 where
   pub distances : List Float
 
 -- rule 8: the output buffers of one call are of one length
-abbrev pub pairRoomsAgree : PairRooms → Bool
-pairRoomsAgree b = eqb (length b.lefts) (length b.rights) && eqb (length b.rights) (length b.distances)
+abbrev pub pair_rooms_agree : PairRooms → Bool
+pair_rooms_agree b = eqb (length b.lefts) (length b.rights) && eqb (length b.rights) (length b.distances)
 
-abbrev pub pairsStored : List Found → PairRooms → PairRooms
-pairsStored l b = record { lefts = stored (map (λ x. x.left) l) b.lefts; rights = stored (map (λ x. x.right) l) b.rights; distances = stored (map (λ x. x.distance) l) b.distances }
+abbrev pub pairs_stored : List Found → PairRooms → PairRooms
+pairs_stored l b = record { lefts = stored (map (λ x. x.left) l) b.lefts; rights = stored (map (λ x. x.right) l) b.rights; distances = stored (map (λ x. x.distance) l) b.distances }
 
 -- rule 9, pairs: more pairs pass than the room holds, told after the walk
-abbrev pub roomNumber : ℕ → ℕ → ℕ
-roomNumber n room = cond (leb n room) 0 9
+abbrev pub room_number : ℕ → ℕ → ℕ
+room_number n room = cond (leb n room) 0 9
 
 -- what a list of pairs and its totals become in rooms, whatever engine found them
 abbrev pub pairsGiven : List Found → Totals → PairRooms → (agree : Bool) → Answer × PairRooms
 pairsGiven l totals b false = (refused 8 0, b)
-pairsGiven l totals b true = (answered (roomNumber (length l) (length b.distances)) (length l) totals, pairsStored l b)
+pairsGiven l totals b true = (answered (room_number (length l) (length b.distances)) (length l) totals, pairs_stored l b)
 
-abbrev pub pairsCall : Trees → Edge → Float → PairRooms → Answer × PairRooms
-pairsCall j edge radius b = checked (λ n side. (refused n side, b)) (leftRefusal j) (rightRefusal j) (pairsGiven (found j edge radius) (walkTotals j edge radius false) b (pairRoomsAgree b))
+abbrev pub pairs_call : Trees → Edge → Float → PairRooms → Answer × PairRooms
+pairs_call j edge radius b = checked (λ n side. (refused n side, b)) (left_refusal j) (right_refusal j) (pairsGiven (found j edge radius) (walk_totals j edge radius false) b (pair_rooms_agree b))
 
 -- ---- counts fill none
 
-abbrev pub countsCall : Trees → Edge → Float → Answer
-countsCall j edge radius = checked refused (leftRefusal j) (rightRefusal j) (answered 0 (count j edge radius) (walkTotals j edge radius true))
+abbrev pub counts_call : Trees → Edge → Float → Answer
+counts_call j edge radius = checked refused (left_refusal j) (right_refusal j) (answered 0 (count j edge radius) (walk_totals j edge radius true))
 
 -- ---- nearest fills two
 
@@ -82,21 +82,21 @@ pub record NearRooms : Type 0 where
   pub items : List ℕ
   pub distances : List Float
 
-abbrev pub nearRoomsAgree : NearRooms → Bool
-nearRoomsAgree b = eqb (length b.items) (length b.distances)
+abbrev pub near_rooms_agree : NearRooms → Bool
+near_rooms_agree b = eqb (length b.items) (length b.distances)
 
-abbrev pub nearStored : List Neighbour → NearRooms → NearRooms
-nearStored l b = record { items = stored (map (λ x. x.item) l) b.items; distances = stored (map (λ x. x.distance) l) b.distances }
+abbrev pub near_stored : List Neighbour → NearRooms → NearRooms
+near_stored l b = record { items = stored (map (λ x. x.item) l) b.items; distances = stored (map (λ x. x.distance) l) b.distances }
 
 -- rule 9, nearest: both trees hold points and the room is below the left number, told beforehand
-abbrev pub nearRoomOk : Trees → NearRooms → Bool
-nearRoomOk j b = noPoints j || leb (places j.left) (length b.distances)
+abbrev pub near_room_ok : Trees → NearRooms → Bool
+near_room_ok j b = no_points j || leb (places j.left) (length b.distances)
 
 -- what a list of neighbours and its totals become in rooms, whatever engine found them
 abbrev pub nearestGiven : List Neighbour → Totals → NearRooms → (agree enough : Bool) → Answer × NearRooms
 nearestGiven l totals b false enough = (refused 8 0, b)
 nearestGiven l totals b true false = (refused 9 0, b)
-nearestGiven l totals b true true = (answered 0 (length l) totals, nearStored l b)
+nearestGiven l totals b true true = (answered 0 (length l) totals, near_stored l b)
 
-abbrev pub nearestCall : Trees → NearRooms → Answer × NearRooms
-nearestCall j b = checked (λ n side. (refused n side, b)) (leftRefusal j) (rightRefusal j) (nearestGiven (nearest j) (nearTotals j) b (nearRoomsAgree b) (nearRoomOk j b))
+abbrev pub nearest_call : Trees → NearRooms → Answer × NearRooms
+nearest_call j b = checked (λ n side. (refused n side, b)) (left_refusal j) (right_refusal j) (nearestGiven (nearest j) (near_totals j) b (near_rooms_agree b) (near_room_ok j b))

@@ -34,18 +34,18 @@ abbrev pub everywhere : Boxes
 everywhere = record { mins = replicate 8 (inf true); maxs = replicate 8 (inf false) }
 
 -- a side lowered to the pivot, and raised to it; never assigned, since a pivot may lie outside the box
-abbrev pub loweredTo : Float → Float → Float
-loweredTo v old = cond (lt v old) v old
+abbrev pub lowered_to : Float → Float → Float
+lowered_to v old = cond (lt v old) v old
 
-abbrev pub raisedTo : Float → Float → Float
-raisedTo v old = cond (lt old v) v old
+abbrev pub raised_to : Float → Float → Float
+raised_to v old = cond (lt old v) v old
 
 -- one max lowered, one min raised
 abbrev pub lowered : Boxes → ℕ → Float → Boxes
-lowered b i v = record { mins = b.mins; maxs = set b.maxs i (loweredTo v (get_or b.maxs i nan)) }
+lowered b i v = record { mins = b.mins; maxs = set b.maxs i (lowered_to v (get_or b.maxs i nan)) }
 
 abbrev pub raised : Boxes → ℕ → Float → Boxes
-raised b i v = record { mins = set b.mins i (raisedTo v (get_or b.mins i nan)); maxs = b.maxs }
+raised b i v = record { mins = set b.mins i (raised_to v (get_or b.mins i nan)); maxs = b.maxs }
 
 -- the numbers from the place i on, by axis
 abbrev pub sides : List Float → ℕ → Row

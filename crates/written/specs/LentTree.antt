@@ -30,18 +30,18 @@ abbrev pub coord : Tree → ℕ → ℕ → Float
 coord t d p = get_or t.coords (d * places t + p) nan
 
 -- the first exponent from r on, and at most k further, whose power of two is not below m
-unfoldable pub firstFrom : ℕ → ℕ → ℕ → ℕ
-firstFrom zero r m = r
-firstFrom (suc k) r m = let next = firstFrom k (suc r) m in cond (leb m (2 ^ r)) r next
+unfoldable pub first_from : ℕ → ℕ → ℕ → ℕ
+first_from zero r m = r
+first_from (suc k) r m = let next = first_from k (suc r) m in cond (leb m (2 ^ r)) r next
 
 -- levels: the exponent of the next power of two from m, which is 0 if m < 2
 unfoldable pub levels : ℕ → ℕ
-unfolding firstFrom
-levels m = firstFrom m 0 m
+unfolding first_from
+levels m = first_from m 0 m
 
 -- stems: none if m < 2, else that power of two
-abbrev pub stemCount : ℕ → ℕ
-stemCount m = cond (ltb m 2) 0 (2 ^ levels m)
+abbrev pub stem_count : ℕ → ℕ
+stem_count m = cond (ltb m 2) 0 (2 ^ levels m)
 
 -- ---- nodes
 
@@ -62,8 +62,8 @@ abbrev pub span : Cursor → ℕ
 span c = c.end - c.first
 
 -- a leaf has no levels left, however many leaves it spans
-abbrev pub isLeaf : Cursor → Bool
-isLeaf c = eqb c.rest 0
+abbrev pub is_leaf : Cursor → Bool
+is_leaf c = eqb c.rest 0
 
 -- a node with r levels left over leaves from f splits at f + 2^(r-1), clipped
 abbrev pub middle : Cursor → ℕ
@@ -78,9 +78,9 @@ far c = record { stem = 2 * c.stem + 1; first = middle c; end = c.end; level = s
 
 -- the nodes of a tree: the root, and both children of a node with a level left
 pub data Node (t : Tree) : Cursor → Type 0 where
-  the-root : Node t (root t)
+  the_root : Node t (root t)
   near_of : {c : Cursor} → Node t c → 0 < c.rest → Node t (near c)
-  far-of : {c : Cursor} → Node t c → 0 < c.rest → Node t (far c)
+  far_of : {c : Cursor} → Node t c → 0 < c.rest → Node t (far c)
 
 -- axis is level mod K
 abbrev pub axis : ℕ → Cursor → ℕ

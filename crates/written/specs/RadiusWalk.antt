@@ -5,17 +5,17 @@ use Rattle.written.specs.Places.{cross}
 use Rattle.written.specs.LentTree.{item}
 use Rattle.written.specs.Boxes.{Trees, distance, lower, upper, Edge, passes, beyond}
 use Rattle.written.specs.Visits.{Fate, measured, ruled, whole, Step, Run, run, sum, gather}
-use Rattle.written.specs.NodePairs.{NodePair, rootPair, stemLevels, leftPart, rightPart, area, allPlaces, noLeaf, split, visit}
-use Rattle.written.specs.Tiles.{byTiles}
+use Rattle.written.specs.NodePairs.{NodePair, root_pair, stem_levels, left_part, right_part, area, all_places, no_leaf, split, visit}
+use Rattle.written.specs.Tiles.{by_tiles}
 
 pub record Found : Type 0 where
   pub left : ℕ
   pub right : ℕ
   pub distance : Float
 
-abbrev pub keepIf : Bool → Found → List Found
-keepIf true x = x ∷ []
-keepIf false x = []
+abbrev pub keep_if : Bool → Found → List Found
+keep_if true x = x ∷ []
+keep_if false x = []
 
 -- what a visit finds, `leaf` being what it finds where it is measured; and how many, `n` being all its pairs
 abbrev pub kept : List Found → Fate → List Found
@@ -39,38 +39,38 @@ module _ (j : Trees) (edge : Edge) (radius : Float) where
   -- what the join keeps of two places
   unfoldable pub keep : ℕ → ℕ → List Found
   unfolding distance passes
-  keep p q = keepIf (passing p q) (pair_of p q)
+  keep p q = keep_if (passing p q) (pair_of p q)
 
   -- all-against-all, in place order
-  abbrev pub allAgainstAll : List Found
-  allAgainstAll = cross keep (allPlaces j.left) (allPlaces j.right)
+  abbrev pub all_against_all : List Found
+  all_against_all = cross keep (all_places j.left) (all_places j.right)
 
-  abbrev pub ruledOut : NodePair → Bool
-  ruledOut s = noLeaf s || beyond edge radius (lower j.axes s.boxes)
+  abbrev pub ruled_out : NodePair → Bool
+  ruled_out s = no_leaf s || beyond edge radius (lower j.axes s.boxes)
 
   -- counting only: the upper bound passes
-  abbrev pub takenWhole : Bool → NodePair → Bool
-  takenWhole counting s = counting && passes edge radius (upper j.axes s.boxes)
+  abbrev pub taken_whole : Bool → NodePair → Bool
+  taken_whole counting s = counting && passes edge radius (upper j.axes s.boxes)
 
   unfoldable pub step : Bool → NodePair → Step NodePair
   unfolding split lower upper passes beyond
-  step counting s = visit j (ruledOut s) (takenWhole counting s) s
+  step counting s = visit j (ruled_out s) (taken_whole counting s) s
 
   -- the visits, for pairs (false) and for counts (true)
   unfoldable pub walk : Bool → Run NodePair
   unfolding step
-  walk counting = run (step counting) (stemLevels j) (rootPair j)
+  walk counting = run (step counting) (stem_levels j) (root_pair j)
 
   -- what a leaf pair finds, in its own order
-  unfoldable pub leafPair : NodePair → List Found
-  unfolding byTiles keep
-  leafPair s = byTiles keep (leftPart j s) (rightPart j s)
+  unfoldable pub leaf_pair : NodePair → List Found
+  unfolding by_tiles keep
+  leaf_pair s = by_tiles keep (left_part j s) (right_part j s)
 
   -- the list found, and the count
   unfoldable pub found : List Found
-  unfolding walk gather leafPair
-  found = gather (λ s k. kept (leafPair s) k) (walk false)
+  unfolding walk gather leaf_pair
+  found = gather (λ s k. kept (leaf_pair s) k) (walk false)
 
   unfoldable pub count : ℕ
-  unfolding walk sum leafPair
-  count = sum (λ s k. counted (length (leafPair s)) (area j s) k) (walk true)
+  unfolding walk sum leaf_pair
+  count = sum (λ s k. counted (length (leaf_pair s)) (area j s) k) (walk true)

@@ -7,9 +7,9 @@ use Rattle.written.specs.LentTree.{Tree, levels}
 use Rattle.written.specs.Check.{every, down}
 use Rattle.written.specs.Boxes.{Trees, up_to, under}
 use Rattle.written.specs.Visits.{runs, carries}
-use Rattle.written.specs.Spacing.{radiusOf}
-use Rattle.written.specs.Table.{pairs, count_of, nearestOf, blankPair, blankNear, outcome, Row, Holds, totals, pair, near, pairsRow, countRow, nearestRow, num, neg}
-use Rattle.written.specs.Stands.{stand-A, stand-B}
+use Rattle.written.specs.Spacing.{radius_of}
+use Rattle.written.specs.Table.{pairs, count_of, nearest_of, blank_pair, blank_near, outcome, Row, Holds, totals, pair, near, pairs_row, count_row, nearest_row, num, neg}
+use Rattle.written.specs.Stands.{stand_A, stand_B}
 
 -- two leaves against three: the right spans more; its last node has one leaf, a level left and a pivot of +inf
 abbrev ragged : Trees
@@ -56,8 +56,8 @@ abbrev planted : Trees
 planted = record { axes = 1; left = fours; right = fours }
 
 -- the left far half holds no point: the largest distance there is 0, so nothing is below it
-abbrev emptyHalf : Trees
-emptyHalf = record {
+abbrev empty_half : Trees
+empty_half = record {
   axes = 1;
   left = record { starts = 0 ∷ 1 ∷ 1 ∷ []; stems = nan ∷ num 0 ∷ []; items = 1 ∷ []; coords = num 0 ∷ [] };
   right = record { starts = 0 ∷ 1 ∷ 2 ∷ []; stems = nan ∷ num 0 ∷ []; items = 5 ∷ 6 ∷ []; coords = neg 1 ∷ num 1 ∷ [] };
@@ -70,8 +70,8 @@ long first last away = record { starts = 0 ∷ 33 ∷ []; stems = []; items = fi
 abbrev longs : Trees
 longs = record { axes = 1; left = long 1 2 (num 1000); right = long 3 4 (num 3000) }
 
-abbrev twoToLong : Trees
-twoToLong = record { axes = 1; left = record { starts = 0 ∷ 2 ∷ []; stems = []; items = 1 ∷ 2 ∷ []; coords = num 0 ∷ num 0 ∷ [] }; right = long 3 4 (num 3000) }
+abbrev two_to_long : Trees
+two_to_long = record { axes = 1; left = record { starts = 0 ∷ 2 ∷ []; stems = []; items = 1 ∷ 2 ∷ []; coords = num 0 ∷ num 0 ∷ [] }; right = long 3 4 (num 3000) }
 
 -- one stem against some, one leaf each
 abbrev single : Float → List ℕ → List Float → ℕ → Trees
@@ -93,42 +93,42 @@ hundredth = of_bits binary64 0x3f847ae147ae147b
 abbrev walks : List Row
 walks =
     -- equal spans: the left is split
-    pairsRow (pairs stand-B up_to (num 100) 4) 0 4 (totals 7 4 0 0) (pair 1 3 (num 0) ∷ pair 1 4 (num 100) ∷ pair 2 3 (num 100) ∷ pair 2 4 (num 0) ∷ [])
+    pairs_row (pairs stand_B up_to (num 100) 4) 0 4 (totals 7 4 0 0) (pair 1 3 (num 0) ∷ pair 1 4 (num 100) ∷ pair 2 3 (num 100) ∷ pair 2 4 (num 0) ∷ [])
     -- the right spans more: it is split first; the node with one leaf and a level left is visited again below
-    ∷ pairsRow (pairs ragged up_to (num 1000) 6) 0 6 (totals 13 6 0 0) (pair 1 3 (num 121) ∷ pair 1 4 (num 144) ∷ pair 2 3 (num 81) ∷ pair 2 4 (num 100) ∷ pair 1 5 (num 169) ∷ pair 2 5 (num 121) ∷ [])
+    ∷ pairs_row (pairs ragged up_to (num 1000) 6) 0 6 (totals 13 6 0 0) (pair 1 3 (num 121) ∷ pair 1 4 (num 144) ∷ pair 2 3 (num 81) ∷ pair 2 4 (num 100) ∷ pair 1 5 (num 169) ∷ pair 2 5 (num 121) ∷ [])
     -- spans of no leaf count as visits; equal to the radius passes up to it, and not under it
-    ∷ pairsRow (pairs five up_to (num 2) 4) 0 3 (totals 12 10 0 0) (pair 20 30 (num 1) ∷ pair 21 30 (num 1) ∷ pair 24 31 (num 2) ∷ blankPair ∷ [])
-    ∷ pairsRow (pairs five under (num 2) 2) 0 2 (totals 12 10 0 0) (pair 20 30 (num 1) ∷ pair 21 30 (num 1) ∷ [])
+    ∷ pairs_row (pairs five up_to (num 2) 4) 0 3 (totals 12 10 0 0) (pair 20 30 (num 1) ∷ pair 21 30 (num 1) ∷ pair 24 31 (num 2) ∷ blank_pair ∷ [])
+    ∷ pairs_row (pairs five under (num 2) 2) 0 2 (totals 12 10 0 0) (pair 20 30 (num 1) ∷ pair 21 30 (num 1) ∷ [])
     -- boxes turned inside out
-    ∷ pairsRow (pairs above up_to (num 9) 2) 0 1 (totals 15 3 1 0) (pair 1 3 (num 4) ∷ blankPair ∷ [])
-    ∷ pairsRow (pairs below under (num 4) 1) 0 0 (totals 12 3 1 0) (blankPair ∷ [])
+    ∷ pairs_row (pairs above up_to (num 9) 2) 0 1 (totals 15 3 1 0) (pair 1 3 (num 4) ∷ blank_pair ∷ [])
+    ∷ pairs_row (pairs below under (num 4) 1) 0 0 (totals 12 3 1 0) (blank_pair ∷ [])
     -- counts: up to 1 the boxes [1,2] and [2,3] against themselves are taken whole, under 1 none is
-    ∷ countRow (count_of planted up_to (num 1)) 10 (totals 31 12 2 2)
-    ∷ countRow (count_of planted under (num 1)) 4 (totals 27 10 6 0)
-    ∷ pairsRow (pairs planted under (num 1) 4) 0 4 (totals 27 10 6 0) (pair 10 10 (num 0) ∷ pair 11 11 (num 0) ∷ pair 12 12 (num 0) ∷ pair 13 13 (num 0) ∷ [])
-    ∷ countRow (count_of planted up_to nan) 0 (totals 31 16 0 0)
+    ∷ count_row (count_of planted up_to (num 1)) 10 (totals 31 12 2 2)
+    ∷ count_row (count_of planted under (num 1)) 4 (totals 27 10 6 0)
+    ∷ pairs_row (pairs planted under (num 1) 4) 0 4 (totals 27 10 6 0) (pair 10 10 (num 0) ∷ pair 11 11 (num 0) ∷ pair 12 12 (num 0) ∷ pair 13 13 (num 0) ∷ [])
+    ∷ count_row (count_of planted up_to nan) 0 (totals 31 16 0 0)
     -- tiles of 32: left tiles, within each the right tiles
-    ∷ pairsRow (pairs longs up_to (num 1) 4) 0 4 (totals 1 1089 0 0) (pair 1 3 (num 0) ∷ pair 1 4 (num 0) ∷ pair 2 3 (num 0) ∷ pair 2 4 (num 0) ∷ [])
-    ∷ pairsRow (pairs twoToLong up_to (num 1) 4) 0 4 (totals 1 66 0 0) (pair 1 3 (num 0) ∷ pair 2 3 (num 0) ∷ pair 1 4 (num 0) ∷ pair 2 4 (num 0) ∷ [])
+    ∷ pairs_row (pairs longs up_to (num 1) 4) 0 4 (totals 1 1089 0 0) (pair 1 3 (num 0) ∷ pair 1 4 (num 0) ∷ pair 2 3 (num 0) ∷ pair 2 4 (num 0) ∷ [])
+    ∷ pairs_row (pairs two_to_long up_to (num 1) 4) 0 4 (totals 1 66 0 0) (pair 1 3 (num 0) ∷ pair 2 3 (num 0) ∷ pair 1 4 (num 0) ∷ pair 2 4 (num 0) ∷ [])
     -- nearest: ruled out at a bound that equals the largest; an empty span; ties in a leaf go to the first
-    ∷ nearestRow (nearestOf stand-B 2) 2 (totals 7 3 1 0) (near 3 (num 0) ∷ near 4 (num 0) ∷ [])
-    ∷ nearestRow (nearestOf ragged 2) 2 (totals 13 6 0 0) (near 3 (num 121) ∷ near 3 (num 81) ∷ [])
-    ∷ nearestRow (nearestOf planted 4) 4 (totals 25 10 6 0) (near 10 (num 0) ∷ near 11 (num 0) ∷ near 12 (num 0) ∷ near 13 (num 0) ∷ [])
-    ∷ nearestRow (nearestOf emptyHalf 1) 1 (totals 5 2 0 0) (near 6 (num 1) ∷ [])
-    ∷ nearestRow (nearestOf (single (num 0) (7 ∷ 8 ∷ 9 ∷ []) (num 1 ∷ neg 1 ∷ num 1 ∷ []) 3) 1) 1 (totals 1 3 0 0) (near 7 (num 1) ∷ [])
+    ∷ nearest_row (nearest_of stand_B 2) 2 (totals 7 3 1 0) (near 3 (num 0) ∷ near 4 (num 0) ∷ [])
+    ∷ nearest_row (nearest_of ragged 2) 2 (totals 13 6 0 0) (near 3 (num 121) ∷ near 3 (num 81) ∷ [])
+    ∷ nearest_row (nearest_of planted 4) 4 (totals 25 10 6 0) (near 10 (num 0) ∷ near 11 (num 0) ∷ near 12 (num 0) ∷ near 13 (num 0) ∷ [])
+    ∷ nearest_row (nearest_of empty_half 1) 1 (totals 5 2 0 0) (near 6 (num 1) ∷ [])
+    ∷ nearest_row (nearest_of (single (num 0) (7 ∷ 8 ∷ 9 ∷ []) (num 1 ∷ neg 1 ∷ num 1 ∷ []) 3) 1) 1 (totals 1 3 0 0) (near 7 (num 1) ∷ [])
     -- nearest without points: nothing written, all totals 0, whatever the room
-    ∷ nearestRow (nearestOf (single (num 0) [] [] 0) 1) 0 (totals 0 0 0 0) (blankNear ∷ [])
-    ∷ nearestRow (nearestOf (single (num 0) [] [] 0) 0) 0 (totals 0 0 0 0) []
+    ∷ nearest_row (nearest_of (single (num 0) [] [] 0) 1) 0 (totals 0 0 0 0) (blank_near ∷ [])
+    ∷ nearest_row (nearest_of (single (num 0) [] [] 0) 0) 0 (totals 0 0 0 0) []
     -- A2, A5, A7
-    ∷ pairsRow (pairs stand-A under (num 10) 1) 0 1 (totals 3 8 0 0) (pair 13 21 (num 0) ∷ [])
-    ∷ pairsRow (pairs stand-A up_to (neg 1) 1) 0 0 (totals 1 0 8 0) (blankPair ∷ [])
-    ∷ countRow (count_of stand-A under (inf false)) 8 (totals 3 8 0 0)
+    ∷ pairs_row (pairs stand_A under (num 10) 1) 0 1 (totals 3 8 0 0) (pair 13 21 (num 0) ∷ [])
+    ∷ pairs_row (pairs stand_A up_to (neg 1) 1) 0 0 (totals 1 0 8 0) (blank_pair ∷ [])
+    ∷ count_row (count_of stand_A under (inf false)) 8 (totals 3 8 0 0)
     -- C2: an overflow of every distance keeps item 0 at +inf; up to +inf finds the pair, under it doesn't
-    ∷ nearestRow (nearestOf (single low200 (7 ∷ []) (high200 ∷ []) 1) 1) 1 (totals 1 1 0 0) (near 0 (inf false) ∷ [])
-    ∷ pairsRow (pairs (single low200 (7 ∷ []) (high200 ∷ []) 1) up_to (inf false) 1) 0 1 (totals 1 1 0 0) (pair 1 7 (inf false) ∷ [])
-    ∷ pairsRow (pairs (single low200 (7 ∷ []) (high200 ∷ []) 1) under (inf false) 1) 0 0 (totals 1 1 0 0) (blankPair ∷ [])
+    ∷ nearest_row (nearest_of (single low200 (7 ∷ []) (high200 ∷ []) 1) 1) 1 (totals 1 1 0 0) (near 0 (inf false) ∷ [])
+    ∷ pairs_row (pairs (single low200 (7 ∷ []) (high200 ∷ []) 1) up_to (inf false) 1) 0 1 (totals 1 1 0 0) (pair 1 7 (inf false) ∷ [])
+    ∷ pairs_row (pairs (single low200 (7 ∷ []) (high200 ∷ []) 1) under (inf false) 1) 0 0 (totals 1 1 0 0) (blank_pair ∷ [])
     -- C3: 0.1*0.1 rounds above 0.01
-    ∷ pairsRow (pairs (single (num 0) (7 ∷ []) (tenth ∷ []) 1) up_to hundredth 1) 0 0 (totals 1 1 0 0) (blankPair ∷ [])
+    ∷ pairs_row (pairs (single (num 0) (7 ∷ []) (tenth ∷ []) 1) up_to hundredth 1) 0 0 (totals 1 1 0 0) (blank_pair ∷ [])
     ∷ []
 
 pub walk_rows : Holds walks
@@ -136,6 +136,6 @@ unfolding outcome runs carries every down levels le lt num neg of_bits
 walk_rows = refl
 
 -- the spacing helper: -2, 0.1, 1e200 and the smallest length, NaN
-pub spacing-rows : map radiusOf (neg 2 ∷ tenth ∷ high200 ∷ of_bits binary64 1 ∷ nan ∷ []) ≡ num 4 ∷ of_bits binary64 0x3f847ae147ae147c ∷ inf false ∷ num 0 ∷ nan ∷ []
-unfolding radiusOf num neg of_bits
-spacing-rows = refl
+pub spacing_rows : map radius_of (neg 2 ∷ tenth ∷ high200 ∷ of_bits binary64 1 ∷ nan ∷ []) ≡ num 4 ∷ of_bits binary64 0x3f847ae147ae147c ∷ inf false ∷ num 0 ∷ nan ∷ []
+unfolding radius_of num neg of_bits
+spacing_rows = refl

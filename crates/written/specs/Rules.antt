@@ -10,15 +10,15 @@ use Rattle.written.specs.Check.{Rule, rule₁, rule₂, rule₃, rule₄, rule�
 
 -- 4
 pub record StartsKept (t : Tree) : Type 0 where
-  pub first-zero : start t 0 ≡ 0
-  pub none-falls : (i : ℕ) → i < leaves t → start t i ≤ start t (suc i)
-  pub none-large : (i : ℕ) → i < leaves t → start t (suc i) - start t i ≤ 1024
-  pub last-n : start t (leaves t) ≡ places t
+  pub first_zero : start t 0 ≡ 0
+  pub none_falls : (i : ℕ) → i < leaves t → start t i ≤ start t (suc i)
+  pub none_large : (i : ℕ) → i < leaves t → start t (suc i) - start t i ≤ 1024
+  pub last_n : start t (leaves t) ≡ places t
 
 -- 7, at one node: no point of its left half is above the pivot, none of its right half below it, and under a pivot of +inf the right half holds none
 pub record OrderKept (K : ℕ) (t : Tree) (c : Cursor) : Type 0 where
-  pub left-half : (p : ℕ) → In p (part t (near c)) → T (lt (pivot t c) (coord t (axis K c) p)) → ⊥
-  pub right-half : (p : ℕ) → In p (part t (far c)) → T (lt (coord t (axis K c) p) (pivot t c)) → ⊥
+  pub left_half : (p : ℕ) → In p (part t (near c)) → T (lt (pivot t c) (coord t (axis K c) p)) → ⊥
+  pub right_half : (p : ℕ) → In p (part t (far c)) → T (lt (coord t (axis K c) p) (pivot t c)) → ⊥
   pub under_top : pivot t c ≡ inf false → (p : ℕ) → In p (part t (far c)) → ⊥
 
 -- the tree keeps the rule
@@ -33,5 +33,5 @@ Kept K t rule₇ = (c : Cursor) → Node t c → 0 < c.rest → OrderKept K t c
 
 -- the number is 0 and the tree keeps all rules, or it is that of a rule that the tree breaks, and it keeps those before
 pub data FirstBroken (K : ℕ) (t : Tree) : ℕ → Type 0 where
-  none-broken : ((r : Rule) → Kept K t r) → FirstBroken K t 0
-  first-broken : (r : Rule) → ((q : Rule) → number_of q < number_of r → Kept K t q) → (Kept K t r → ⊥) → FirstBroken K t (number_of r)
+  none_broken : ((r : Rule) → Kept K t r) → FirstBroken K t 0
+  first_broken : (r : Rule) → ((q : Rule) → number_of q < number_of r → Kept K t q) → (Kept K t r → ⊥) → FirstBroken K t (number_of r)

@@ -4,6 +4,6 @@ use Rattle.std.specs.Float.Ieee.{mul}
 use Rattle.std.specs.Float.{binary64}
 
 -- `Float` has one NaN, so every NaN is one answer
-unfoldable pub radiusOf : Float → Float
+unfoldable pub radius_of : Float → Float
 unfolding mul
-radiusOf r = mul binary64 r r
+radius_of r = mul binary64 r r

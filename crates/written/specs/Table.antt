@@ -5,26 +5,26 @@ use Rattle.std.specs.Float.Ieee.{of_int}
 use Rattle.written.specs.Boxes.{Trees, Edge}
 use Rattle.written.specs.RadiusWalk.{Found, found, count}
 use Rattle.written.specs.Nearest.{Neighbour, nearest}
-use Rattle.written.specs.Totals.{Totals, walkTotals, nearTotals}
+use Rattle.written.specs.Totals.{Totals, walk_totals, near_totals}
 use Rattle.written.specs.Check.{refusal}
-use Rattle.written.specs.Answers.{Answer, answered, refused, PairRooms, stored, pairsCall, countsCall, NearRooms, nearestCall}
+use Rattle.written.specs.Answers.{Answer, answered, refused, PairRooms, stored, pairs_call, counts_call, NearRooms, nearest_call}
 
 -- ---- what is asked
 
 -- a call, and how many places its output buffers have
 pub data Ask : Type 0 where
   pairs : Trees → Edge → Float → (room : ℕ) → Ask
-  unevenPairs : Trees → Edge → Float → (lefts rights distances : ℕ) → Ask
+  uneven_pairs : Trees → Edge → Float → (lefts rights distances : ℕ) → Ask
   count_of : Trees → Edge → Float → Ask
-  nearestOf : Trees → (room : ℕ) → Ask
-  unevenNearest : Trees → (items distances : ℕ) → Ask
+  nearest_of : Trees → (room : ℕ) → Ask
+  uneven_nearest : Trees → (items distances : ℕ) → Ask
 
 -- what an untouched place of the buffers holds
-abbrev pub blankPair : Found
-blankPair = record { left = 777; right = 777; distance = nan }
+abbrev pub blank_pair : Found
+blank_pair = record { left = 777; right = 777; distance = nan }
 
-abbrev pub blankNear : Neighbour
-blankNear = record { item = 777; distance = nan }
+abbrev pub blank_near : Neighbour
+blank_near = record { item = 777; distance = nan }
 
 -- ---- what is answered
 
@@ -34,36 +34,36 @@ pub record Outcome : Type 0 where
   pub pairs : List Found
   pub near : List Neighbour
 
-abbrev pub pairRows : List ℕ → List ℕ → List Float → List Found
-pairRows [] rs ds = []
-pairRows (l ∷ ls) [] ds = []
-pairRows (l ∷ ls) (r ∷ rs) [] = []
-pairRows (l ∷ ls) (r ∷ rs) (d ∷ ds) = record { left = l; right = r; distance = d } ∷ pairRows ls rs ds
+abbrev pub pair_rows : List ℕ → List ℕ → List Float → List Found
+pair_rows [] rs ds = []
+pair_rows (l ∷ ls) [] ds = []
+pair_rows (l ∷ ls) (r ∷ rs) [] = []
+pair_rows (l ∷ ls) (r ∷ rs) (d ∷ ds) = record { left = l; right = r; distance = d } ∷ pair_rows ls rs ds
 
-abbrev pub nearRows : List ℕ → List Float → List Neighbour
-nearRows [] ds = []
-nearRows (i ∷ is) [] = []
-nearRows (i ∷ is) (d ∷ ds) = record { item = i; distance = d } ∷ nearRows is ds
+abbrev pub near_rows : List ℕ → List Float → List Neighbour
+near_rows [] ds = []
+near_rows (i ∷ is) [] = []
+near_rows (i ∷ is) (d ∷ ds) = record { item = i; distance = d } ∷ near_rows is ds
 
-abbrev pub ofPairs : Answer × PairRooms → Outcome
-ofPairs x = record { answer = x.0; pairs = pairRows x.1.lefts x.1.rights x.1.distances; near = [] }
+abbrev pub of_pairs : Answer × PairRooms → Outcome
+of_pairs x = record { answer = x.0; pairs = pair_rows x.1.lefts x.1.rights x.1.distances; near = [] }
 
-abbrev pub ofNearest : Answer × NearRooms → Outcome
-ofNearest x = record { answer = x.0; pairs = []; near = nearRows x.1.items x.1.distances }
+abbrev pub of_nearest : Answer × NearRooms → Outcome
+of_nearest x = record { answer = x.0; pairs = []; near = near_rows x.1.items x.1.distances }
 
-abbrev pub pairRooms : ℕ → ℕ → ℕ → PairRooms
-pairRooms ls rs ds = record { lefts = replicate ls blankPair.left; rights = replicate rs blankPair.right; distances = replicate ds blankPair.distance }
+abbrev pub pair_rooms : ℕ → ℕ → ℕ → PairRooms
+pair_rooms ls rs ds = record { lefts = replicate ls blank_pair.left; rights = replicate rs blank_pair.right; distances = replicate ds blank_pair.distance }
 
-abbrev pub nearRooms : ℕ → ℕ → NearRooms
-nearRooms is ds = record { items = replicate is blankNear.item; distances = replicate ds blankNear.distance }
+abbrev pub near_rooms : ℕ → ℕ → NearRooms
+near_rooms is ds = record { items = replicate is blank_near.item; distances = replicate ds blank_near.distance }
 
 unfoldable pub outcome : Ask → Outcome
-unfolding found nearest nearTotals stored count walkTotals refusal
-outcome (pairs j edge radius room) = ofPairs (pairsCall j edge radius (pairRooms room room room))
-outcome (unevenPairs j edge radius ls rs ds) = ofPairs (pairsCall j edge radius (pairRooms ls rs ds))
-outcome (count_of j edge radius) = record { answer = countsCall j edge radius; pairs = []; near = [] }
-outcome (nearestOf j room) = ofNearest (nearestCall j (nearRooms room room))
-outcome (unevenNearest j is ds) = ofNearest (nearestCall j (nearRooms is ds))
+unfolding found nearest near_totals stored count walk_totals refusal
+outcome (pairs j edge radius room) = of_pairs (pairs_call j edge radius (pair_rooms room room room))
+outcome (uneven_pairs j edge radius ls rs ds) = of_pairs (pairs_call j edge radius (pair_rooms ls rs ds))
+outcome (count_of j edge radius) = record { answer = counts_call j edge radius; pairs = []; near = [] }
+outcome (nearest_of j room) = of_nearest (nearest_call j (near_rooms room room))
+outcome (uneven_nearest j is ds) = of_nearest (nearest_call j (near_rooms is ds))
 
 -- ---- a table
 
@@ -76,8 +76,8 @@ abbrev pub Holds : List Row → Type 0
 Holds table = map (λ r. outcome r.ask) table ≡ map (λ r. r.says) table
 
 -- a row in few words: found pairs, a count, nearest answers, or a refusal
-abbrev pub totals : (visits measured ruledOut whole : ℕ) → Totals
-totals visits measured ruledOut whole = record { visits = visits; measured = measured; ruledOut = ruledOut; whole = whole }
+abbrev pub totals : (visits measured ruled_out whole : ℕ) → Totals
+totals visits measured ruled_out whole = record { visits = visits; measured = measured; ruled_out = ruled_out; whole = whole }
 
 abbrev pub pair : ℕ → ℕ → Float → Found
 pair left right distance = record { left = left; right = right; distance = distance }
@@ -85,21 +85,21 @@ pair left right distance = record { left = left; right = right; distance = dista
 abbrev pub near : ℕ → Float → Neighbour
 near item distance = record { item = item; distance = distance }
 
-abbrev pub pairsRow : Ask → (number found : ℕ) → Totals → List Found → Row
-pairsRow ask number found walk buffers = record { ask = ask; says = record { answer = answered number found walk; pairs = buffers; near = [] } }
+abbrev pub pairs_row : Ask → (number found : ℕ) → Totals → List Found → Row
+pairs_row ask number found walk buffers = record { ask = ask; says = record { answer = answered number found walk; pairs = buffers; near = [] } }
 
-abbrev pub countRow : Ask → (found : ℕ) → Totals → Row
-countRow ask found walk = record { ask = ask; says = record { answer = answered 0 found walk; pairs = []; near = [] } }
+abbrev pub count_row : Ask → (found : ℕ) → Totals → Row
+count_row ask found walk = record { ask = ask; says = record { answer = answered 0 found walk; pairs = []; near = [] } }
 
-abbrev pub nearestRow : Ask → (found : ℕ) → Totals → List Neighbour → Row
-nearestRow ask found walk buffers = record { ask = ask; says = record { answer = answered 0 found walk; pairs = []; near = buffers } }
+abbrev pub nearest_row : Ask → (found : ℕ) → Totals → List Neighbour → Row
+nearest_row ask found walk buffers = record { ask = ask; says = record { answer = answered 0 found walk; pairs = []; near = buffers } }
 
 -- a refusal that leaves its buffers untouched
-abbrev pub refusedPairs : Ask → (number side : ℕ) → List Found → Row
-refusedPairs ask number side buffers = record { ask = ask; says = record { answer = refused number side; pairs = buffers; near = [] } }
+abbrev pub refused_pairs : Ask → (number side : ℕ) → List Found → Row
+refused_pairs ask number side buffers = record { ask = ask; says = record { answer = refused number side; pairs = buffers; near = [] } }
 
-abbrev pub refusedNearest : Ask → (number side : ℕ) → List Neighbour → Row
-refusedNearest ask number side buffers = record { ask = ask; says = record { answer = refused number side; pairs = []; near = buffers } }
+abbrev pub refused_nearest : Ask → (number side : ℕ) → List Neighbour → Row
+refused_nearest ask number side buffers = record { ask = ask; says = record { answer = refused number side; pairs = []; near = buffers } }
 
 -- whole numbers as coordinates
 unfoldable pub num : ℕ → Float

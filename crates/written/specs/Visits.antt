@@ -91,10 +91,10 @@ module _ {S : Type 0} where
   deepest w (two s r t) = max (deepest (suc w) r) (deepest (suc w) t)
 
   -- The same where the far half is visited first and every node pair waits before it is taken, the root too: w others wait beside the first.
-  unfoldable pub deepestFar : ℕ → Run S → ℕ
-  deepestFar w (stop s k) = suc w
-  deepestFar w (one s r) = deepestFar w r
-  deepestFar w (two s r t) = max (deepestFar w r) (deepestFar (suc w) t)
+  unfoldable pub deepest_far : ℕ → Run S → ℕ
+  deepest_far w (stop s k) = suc w
+  deepest_far w (one s r) = deepest_far w r
+  deepest_far w (two s r t) = max (deepest_far w r) (deepest_far (suc w) t)
 
   -- a number for each visit that ends, added up
   unfoldable pub sum : (S → Fate → ℕ) → Run S → ℕ

@@ -2,7 +2,7 @@
 use borrow.Author.Rules.{rules}
 use lib.Ieee.{div, of_bits}
 use Rattle.written.specs.Laws.Tests.{refused, granted}
-use Rattle.beside.proofs.Held.{place-held}
+use Rattle.beside.proofs.Held.{place_held}
 use Rattle.beside.proofs.oul_distance.Statement.{statement}
 use Rattle.beside.proofs.oul_distance.Tie as tie
 
@@ -21,7 +21,7 @@ unfolding div of_bits
 returns-2 c = simp (granted c.before.before.before.Place-ok.ensures c.before.before.if1.false, refused c.before.place-ok2.ensures c.if2.true)
 
 distance-requires : tie.Need-distance-requires
-distance-requires c κs = (place-held (granted c.before.before.before.Place-ok.ensures c.before.before.if1.false), place-held (granted c.before.place-ok2.ensures c.if2.false))
+distance-requires c κs = (place_held (granted c.before.before.before.Place-ok.ensures c.before.before.if1.false), place_held (granted c.before.place-ok2.ensures c.if2.false))
 
 returns-3 : tie.Need-returns-3
 returns-3 c = simp (granted c.before.before.before.before.Place-ok.ensures c.before.before.before.if1.false, granted c.before.before.place-ok2.ensures c.before.if2.false, c.distance.ensures)

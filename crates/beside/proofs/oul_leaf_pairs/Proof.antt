@@ -2,8 +2,8 @@
 use native.Mathlib.Omega.{arith}
 use borrow.Author.Rules.{rules}
 use Rattle.written.specs.Laws.Tests.{refused, granted}
-use Rattle.leaf.specs.Fits.{leaf-fits}
-use Rattle.beside.proofs.Held.{pair_held, alike-held}
+use Rattle.leaf.specs.Fits.{leaf_fits}
+use Rattle.beside.proofs.Held.{pair_held, alike_held}
 use Rattle.beside.proofs.oul_leaf_pairs.Statement.{statement}
 use Rattle.beside.proofs.oul_leaf_pairs.Tie as tie
 
@@ -23,7 +23,7 @@ leaf-pairs-requires : tie.Need-leaf-pairs-requires
 leaf-pairs-requires c κs =
     let a = c.before.before.before.before.before.before.before.before.before.before.before.before.before.before.args in
     let pair = pair_held (granted c.before.before.before.before.before.before.pair_ok.ensures c.before.before.before.before.before.if1.false) in
-    (pair, (alike-held (granted c.before.before.before.before.alike.ensures c.before.before.before.if2.false), omega (arith, leaf-fits a.radius a.under pair)))
+    (pair, (alike_held (granted c.before.before.before.before.alike.ensures c.before.before.before.if2.false), omega (arith, leaf_fits a.radius a.under pair)))
 
 same_length : tie.Need-same-length
 same_length c = search rules

@@ -6,7 +6,7 @@ use borrow.Author.Rules.{rules}
 use lib.ListN.{length}
 use Rattle.written.specs.Laws.Tests.{refused, granted}
 use Rattle.leaf.specs.Lent.{LeafPair}
-use Rattle.beside.proofs.Held.{pair_held, alike-held}
+use Rattle.beside.proofs.Held.{pair_held, alike_held}
 use Rattle.beside.proofs.Laid.{laid_out}
 use Rattle.beside.proofs.oul_update_leaf.Statement.{statement}
 use Rattle.beside.proofs.oul_update_leaf.Tie as tie
@@ -31,7 +31,7 @@ returns-2 c = simp (granted c.before.before.before.pair_ok.ensures c.before.befo
 
 update-leaf-requires : tie.Need-update-leaf-requires
 update-leaf-requires c κs =
-    let h = alike-held (granted c.before.before.before.alike.ensures c.before.before.if2.false) in
+    let h = alike_held (granted c.before.before.before.alike.ensures c.before.before.if2.false) in
     (pair_held (granted c.before.before.before.before.before.pair_ok.ensures c.before.before.before.before.if1.false), (sym h.0, sym h.1))
 
 same_length : tie.Need-same-length
@@ -44,7 +44,7 @@ returns-3 : tie.Need-returns-3
 returns-3 c =
     let a = c.before.before.before.before.before.before.before.before.before.before.before.before.before.before.before.before.before.args in
     let fits = granted c.before.before.before.before.before.before.before.before.alike.ensures c.before.before.before.before.before.before.before.if2.false in
-    let h : (a.lend - a.ls ≡ length a.items.now) × (a.lend - a.ls ≡ length a.dists.now) = alike-held fits in
+    let h : (a.lend - a.ls ≡ length a.items.now) × (a.lend - a.ls ≡ length a.dists.now) = alike_held fits in
     rw (granted c.before.before.before.before.before.before.before.before.before.before.pair_ok.ensures c.before.before.before.before.before.before.before.before.before.if1.false, fits) (laid_out (omega (arith, h, c.before.before.before.before.update-leaf.auto)) c.before.before.before.before.update-leaf.ensures)
 
 pub oul-update-leaf-spec : {M : Type 1} → statement M

@@ -5,8 +5,8 @@ use Prim.Native.Nat.{◌-◌, ◌^◌, ◌≤◌, ◌<◌}
 use native.Mathlib.Numerals.{add-one}
 use native.Mathlib.Omega.{arith}
 use Rattle.written.specs.LentTree.{levels}
-use Rattle.written.specs.Laws.LentTree.{levels-least}
-use Rattle.cursor.proofs.Laws.{below-levels, levels-few}
+use Rattle.written.specs.Laws.LentTree.{levels_least}
+use Rattle.cursor.proofs.Laws.{below_levels, levels_few}
 use Rattle.cursor.proofs.levels.Statement.{statement}
 use Rattle.cursor.proofs.levels.Tie as tie
 
@@ -18,7 +18,7 @@ decreases-loop m r₀ power₀ r power = levels m - r
 
 -- a turn begins with 2^r below m, so that r is below the levels
 rising : (c : tie.In-loop invariant-loop decreases-loop) → c.before.loop.r < levels c.before.before.args.m
-rising c = below-levels _ _ (omega arith)
+rising c = below_levels _ _ (omega arith)
 
 loop-holds : tie.Need-loop-init invariant-loop decreases-loop
 loop-holds c = (c.requires, refl, omega arith)
@@ -27,7 +27,7 @@ mul_power : tie.Need-overflow-mul-power invariant-loop decreases-loop
 mul_power c = omega arith
 
 add_r : tie.Need-overflow-add-r invariant-loop decreases-loop
-add_r c = omega (arith, levels-few _ c.before.loop.invariant.0)
+add_r c = omega (arith, levels_few _ c.before.loop.invariant.0)
 
 loop-less : tie.Need-loop-smaller invariant-loop decreases-loop
 loop-less c = omega (arith, rising c)
@@ -37,7 +37,7 @@ loop-again c = (c.before.loop.invariant.0, rw add-one (omega arith), omega (arit
 
 returns : tie.Need-returns invariant-loop decreases-loop
 returns c =
-    omega (arith, levels-least c.before.before.args.m c.before.loop.r (omega arith))
+    omega (arith, levels_least c.before.before.args.m c.before.loop.r (omega arith))
 
 pub levels-spec : {M : Type 1} → statement M
 levels-spec =

@@ -3,18 +3,18 @@ use mathlib.Core.List.{List}
 use Prim.Native.Nat.{ℕ}
 use native.Mathlib.Omega.{arith}
 use borrow.Author.Rules.{rules}
-use Rattle.reading.specs.Header.{headerRefusal}
+use Rattle.reading.specs.Header.{header_refusal}
 use Rattle.reading.specs.Lays.{Lays, LaidOut}
-use Rattle.reading.specs.Laws.{end-within}
-use Rattle.printing.specs.Text.{refusedLine}
-use Rattle.job.proofs.Deciding.{sized, header-printed, length-printed, joined-printed, no-left, left-lays, no-right, right-lays, another-end, same_end, finished}
+use Rattle.reading.specs.Laws.{end_within}
+use Rattle.printing.specs.Text.{refused_line}
+use Rattle.job.proofs.Deciding.{sized, header_printed, length_printed, joined_printed, no_left, left_lays, no_right, right_lays, another_end, same_end, finished}
 use Rattle.job.proofs.run.Statement.{statement}
 use Rattle.job.proofs.run.Tie as tie
 
 abbrev job : tie.Start → List ℕ
 job c = c.args.s.now
 
-accepted : (c : tie.Else1) → headerRefusal (job c.before.before.before.before) ≡ 0
+accepted : (c : tie.Else1) → header_refusal (job c.before.before.before.before) ≡ 0
 accepted c = sym c.before.header-refusal.ensures ∙ c.if1.false
 
 -- the trees that were found
@@ -37,7 +37,7 @@ returns : tie.Need-returns
 returns c =
     let r = c.before.before.refused.ensures in
     let h = c.before.before.before.before.before.header-refusal.ensures in
-    finished _ r.0 (ap (λ (n : ℕ). refusedLine n 0) h ∙ header-printed _ (λ e. c.before.before.before.before.if1.true (h ∙ e))) (omega (arith, r.1))
+    finished _ r.0 (ap (λ (n : ℕ). refused_line n 0) h ∙ header_printed _ (λ e. c.before.before.before.before.if1.true (h ∙ e))) (omega (arith, r.1))
 
 byte-at-requires : tie.Need-byte-at-requires
 byte-at-requires c κs = omega (arith, sized _ (accepted c))
@@ -68,12 +68,12 @@ returns-2 c =
     let k = c.before.before.before.before.before.before.before.byte_at.ensures.0 in
     let r = c.before.before.refused2.ensures in
     let wrong = subst (LaidOut _ _ 16) c.before.before.before.before.enum_told.given.1 c.before.before.before.before.before.before.lay.ensures in
-    finished _ r.0 (length-printed _ a (no-left (job c.before.before.before.before.before.before.before.before.before.before.before.before) k wrong)) (omega (arith, r.1))
+    finished _ r.0 (length_printed _ a (no_left (job c.before.before.before.before.before.before.before.before.before.before.before.before) k wrong)) (omega (arith, r.1))
 
 lay-requires-2 : tie.Need-lay-requires-2
 lay-requires-2 c κs =
     let z = sized _ (accepted c.before.before.before.before.before) in
-    (end-within (left c.before), z.1, c.before.before.before.before.byte_at.ensures.1)
+    (end_within (left c.before), z.1, c.before.before.before.before.byte_at.ensures.1)
 
 enum-known-r : tie.Need-enum-known-r
 enum-known-r c = search rules
@@ -93,7 +93,7 @@ returns-3 c =
     let k = c.before.before.before.before.before.before.before.before.before.before.before.byte_at.ensures.0 in
     let r = c.before.before.refused3.ensures in
     let wrong = subst (LaidOut _ _ _) c.before.before.before.before.enum-told2.given.1 c.before.before.before.before.before.before.lay2.ensures in
-    finished _ r.0 (length-printed _ a (no-right (job c.before.before.before.before.before.before.before.before.before.before.before.before.before.before.before.before) k (left c.before.before.before.before.before.before.before.before) wrong)) (omega (arith, r.1))
+    finished _ r.0 (length_printed _ a (no_right (job c.before.before.before.before.before.before.before.before.before.before.before.before.before.before.before.before) k (left c.before.before.before.before.before.before.before.before) wrong)) (omega (arith, r.1))
 
 refused-requires-4 : tie.Need-refused-requires-4
 refused-requires-4 c κs = search rules
@@ -106,13 +106,13 @@ returns-4 c =
     let a = accepted c.before.before.before.before.before.before.before.before.before.before.before.before.before.before.before in
     let k = c.before.before.before.before.before.before.before.before.before.before.before.before.before.before.byte_at.ensures.0 in
     let r = c.before.before.refused4.ensures in
-    finished _ r.0 (length-printed _ a (another-end (job c.before.before.before.before.before.before.before.before.before.before.before.before.before.before.before.before.before.before.before) k (left c.before.before.before.before.before.before.before.before.before.before.before) (right c.before.before.before.before.before.before.before) c.before.before.before.before.if2.true)) (omega (arith, r.1))
+    finished _ r.0 (length_printed _ a (another_end (job c.before.before.before.before.before.before.before.before.before.before.before.before.before.before.before.before.before.before.before) k (left c.before.before.before.before.before.before.before.before.before.before.before) (right c.before.before.before.before.before.before.before) c.before.before.before.before.if2.true)) (omega (arith, r.1))
 
 joined-requires : tie.Need-joined-requires
 joined-requires c κs =
     let z = sized _ (accepted c.before.before.before.before.before.before.before.before.before.before.before.before) in
     let k = c.before.before.before.before.before.before.before.before.before.before.before.byte_at.ensures.0 in
-    (z.0, z.1, left-lays (job c.before.before.before.before.before.before.before.before.before.before.before.before.before.before.before.before) k (left c.before.before.before.before.before.before.before.before), right-lays (job c.before.before.before.before.before.before.before.before.before.before.before.before.before.before.before.before) k (left c.before.before.before.before.before.before.before.before) (right c.before.before.before.before))
+    (z.0, z.1, left_lays (job c.before.before.before.before.before.before.before.before.before.before.before.before.before.before.before.before) k (left c.before.before.before.before.before.before.before.before), right_lays (job c.before.before.before.before.before.before.before.before.before.before.before.before.before.before.before.before) k (left c.before.before.before.before.before.before.before.before) (right c.before.before.before.before))
 
 same-length-5 : tie.Need-same-length-5
 same-length-5 c = search rules
@@ -122,7 +122,7 @@ returns-5 c =
     let a = accepted c.before.before.before.before.before.before.before.before.before.before.before.before.before.before.before in
     let k = c.before.before.before.before.before.before.before.before.before.before.before.before.before.before.byte_at.ensures.0 in
     let r = c.before.before.joined.ensures in
-    finished _ r.put (joined-printed _ a (same_end (job c.before.before.before.before.before.before.before.before.before.before.before.before.before.before.before.before.before.before.before) k (left c.before.before.before.before.before.before.before.before.before.before.before) (right c.before.before.before.before.before.before.before) c.before.before.before.before.if2.false)) r.bounded
+    finished _ r.put (joined_printed _ a (same_end (job c.before.before.before.before.before.before.before.before.before.before.before.before.before.before.before.before.before.before.before) k (left c.before.before.before.before.before.before.before.before.before.before.before) (right c.before.before.before.before.before.before.before) c.before.before.before.before.if2.false)) r.bounded
 
 pub run_spec : {M : Type 1} → statement M
 run_spec =

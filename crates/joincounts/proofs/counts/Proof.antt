@@ -4,32 +4,32 @@ use native.Mathlib.Omega.{arith}
 use borrow.Author.Rules.{rules}
 use Rattle.written.specs.Boxes.{Trees, Edge}
 use Rattle.written.specs.RadiusWalk.{count}
-use Rattle.written.specs.Totals.{walkTotals}
-use Rattle.written.specs.Answers.{Answer, answered, refused, Accepts, leftRefusal, rightRefusal}
-use Rattle.written.specs.Laws.Checked.{both-accepted, checked_refused}
+use Rattle.written.specs.Totals.{walk_totals}
+use Rattle.written.specs.Answers.{Answer, answered, refused, Accepts, left_refusal, right_refusal}
+use Rattle.written.specs.Laws.Checked.{both_accepted, checked_refused}
 use Rattle.metric.specs.Edges.{edge_of}
 use Rattle.answer.specs.Outcomes.{sides-accepted}
-use Rattle.trees.specs.Lent.{treesOf}
+use Rattle.trees.specs.Lent.{trees_of}
 use Rattle.radiusvisit.specs.Work.{Work}
 use Rattle.joincounts.proofs.counts.Statement.{statement}
 use Rattle.joincounts.proofs.counts.Tie as tie
 
 abbrev trees : tie.Start → Trees
-trees c = treesOf c.args.k c.args.lstarts.now c.args.lstems.now c.args.litems.now c.args.lcoords.now c.args.rstarts.now c.args.rstems.now c.args.ritems.now c.args.rcoords.now
+trees c = trees_of c.args.k c.args.lstarts.now c.args.lstems.now c.args.litems.now c.args.lcoords.now c.args.rstarts.now c.args.rstems.now c.args.ritems.now c.args.rcoords.now
 
 abbrev edge : tie.Start → Edge
 edge c = edge_of c.args.under
 
 -- how the call goes on where both trees are accepted
 abbrev rest : tie.Start → Answer
-rest c = answered 0 (count (trees c) (edge c) c.args.radius) (walkTotals (trees c) (edge c) c.args.radius true)
+rest c = answered 0 (count (trees c) (edge c) c.args.radius) (walk_totals (trees c) (edge c) c.args.radius true)
 
 -- the way up from the trees' number to the entry
 abbrev entry : tie.After-refusal → tie.Start
 entry c = c.before.before.before.before.before.before.before.before.before
 
 accepted : (c : tie.Else1) → Accepts (trees (entry c.before))
-accepted c = let j = trees (entry c.before) in both-accepted (leftRefusal j) (rightRefusal j) c.before.refusal.ensures c.if1.false
+accepted c = let j = trees (entry c.before) in both_accepted (left_refusal j) (right_refusal j) c.before.refusal.ensures c.if1.false
 
 refusal-requires : tie.Need-refusal-requires
 refusal-requires c κs = search rules
@@ -41,7 +41,7 @@ returns : tie.Need-returns
 returns c =
     let r = c.before.before in
     let s = entry r in
-    c.refused.ensures ∙ sym (checked_refused refused (rest s) (leftRefusal (trees s)) (rightRefusal (trees s)) r.refusal.ensures (omega arith))
+    c.refused.ensures ∙ sym (checked_refused refused (rest s) (left_refusal (trees s)) (right_refusal (trees s)) r.refusal.ensures (omega arith))
 
 slice-aggregate-walk : tie.Need-slice-aggregate-walk
 slice-aggregate-walk c = search rules
@@ -63,7 +63,7 @@ returns-2 c =
     let w = c.before.before.before.before in
     let a = w.before.before.before.before in
     let s = entry a.before in
-    sides-accepted refused (leftRefusal (trees s)) (rightRefusal (trees s)) (accepted a) (c.answered.ensures ∙ ap (λ (x : Work). answered 0 x.fill.found x.totals) w.walk.ensures)
+    sides-accepted refused (left_refusal (trees s)) (right_refusal (trees s)) (accepted a) (c.answered.ensures ∙ ap (λ (x : Work). answered 0 x.fill.found x.totals) w.walk.ensures)
 
 pub counts-spec : {M : Type 1} → statement M
 counts-spec =

@@ -4,20 +4,20 @@ use mathlib.Core.Bool.{true}
 use native.Mathlib.Omega.{arith}
 use borrow.Author.Rules.{rules}
 use Rattle.written.specs.Boxes.{Trees}
-use Rattle.written.specs.Answers.{Accepts, leftRefusal, rightRefusal, NearRooms, nearRoomsAgree, nearRoomOk}
+use Rattle.written.specs.Answers.{Accepts, left_refusal, right_refusal, NearRooms, near_rooms_agree, near_room_ok}
 use Rattle.written.specs.Laws.Tests.{refused, granted}
-use Rattle.written.specs.Laws.Checked.{both-accepted}
-use Rattle.answer.specs.Rooms.{nearRoomsOf}
-use Rattle.trees.specs.Lent.{treesOf}
-use Rattle.joinnearest.proofs.Outcomes.{tree-refused, rooms-refused, room-refused, walk-told}
+use Rattle.written.specs.Laws.Checked.{both_accepted}
+use Rattle.answer.specs.Rooms.{near_rooms_of}
+use Rattle.trees.specs.Lent.{trees_of}
+use Rattle.joinnearest.proofs.Outcomes.{tree_refused, rooms_refused, room-refused, walk-told}
 use Rattle.joinnearest.proofs.nearest.Statement.{statement}
 use Rattle.joinnearest.proofs.nearest.Tie as tie
 
 abbrev trees : tie.Start → Trees
-trees c = treesOf c.args.k c.args.lstarts.now c.args.lstems.now c.args.litems.now c.args.lcoords.now c.args.rstarts.now c.args.rstems.now c.args.ritems.now c.args.rcoords.now
+trees c = trees_of c.args.k c.args.lstarts.now c.args.lstems.now c.args.litems.now c.args.lcoords.now c.args.rstarts.now c.args.rstems.now c.args.ritems.now c.args.rcoords.now
 
 abbrev rooms : tie.Start → NearRooms
-rooms c = nearRoomsOf c.args.items.now c.args.dists.now
+rooms c = near_rooms_of c.args.items.now c.args.dists.now
 
 -- ---- the way up: from the trees' number to the entry, from the rooms' to the trees', from the room's to the rooms'
 abbrev entry : tie.After-refusal → tie.Start
@@ -36,12 +36,12 @@ abbrev start : tie.Else2 → tie.Start
 start c = begin (checked c.before)
 
 accepted : (c : tie.Else1) → Accepts (trees (begin c))
-accepted c = let j = trees (begin c) in both-accepted (leftRefusal j) (rightRefusal j) c.before.refusal.ensures c.if1.false
+accepted c = let j = trees (begin c) in both_accepted (left_refusal j) (right_refusal j) c.before.refusal.ensures c.if1.false
 
-agreed : (c : tie.Else2) → nearRoomsAgree (rooms (start c)) ≡ true
+agreed : (c : tie.Else2) → near_rooms_agree (rooms (start c)) ≡ true
 agreed c = granted c.before.nearest-agree.ensures c.if2.false
 
-enough : (c : tie.Else3) → let s = start (agreeing c.before) in nearRoomOk (trees s) (rooms s) ≡ true
+enough : (c : tie.Else3) → let s = start (agreeing c.before) in near_room_ok (trees s) (rooms s) ≡ true
 enough c = granted c.before.nearest-fits.ensures c.if3.false
 
 refusal-requires : tie.Need-refusal-requires
@@ -54,7 +54,7 @@ returns : tie.Need-returns
 returns c =
     let r = c.before.before in
     let s = entry r in
-    tree-refused (trees s) (rooms s) c.refused.ensures r.refusal.ensures (omega arith)
+    tree_refused (trees s) (rooms s) c.refused.ensures r.refusal.ensures (omega arith)
 
 nearest-agree-requires : tie.Need-nearest-agree-requires
 nearest-agree-requires c κs = search rules
@@ -72,7 +72,7 @@ returns-2 : tie.Need-returns-2
 returns-2 c =
     let g = c.before.before in
     let s = begin (checked g) in
-    rooms-refused (trees s) (rooms s) (accepted (checked g)) c.refused2.ensures (refused g.nearest-agree.ensures c.before.if2.true)
+    rooms_refused (trees s) (rooms s) (accepted (checked g)) c.refused2.ensures (refused g.nearest-agree.ensures c.before.if2.true)
 
 nearest-fits-requires : tie.Need-nearest-fits-requires
 nearest-fits-requires c κs = search rules

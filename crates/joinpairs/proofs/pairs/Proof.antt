@@ -4,18 +4,18 @@ use mathlib.Core.Bool.{true}
 use native.Mathlib.Omega.{arith}
 use borrow.Author.Rules.{rules}
 use Rattle.written.specs.Boxes.{Trees}
-use Rattle.written.specs.Answers.{Accepts, leftRefusal, rightRefusal, PairRooms, pairRoomsAgree}
+use Rattle.written.specs.Answers.{Accepts, left_refusal, right_refusal, PairRooms, pair_rooms_agree}
 use Rattle.written.specs.Laws.Tests.{refused, granted}
-use Rattle.written.specs.Laws.Checked.{both-accepted}
+use Rattle.written.specs.Laws.Checked.{both_accepted}
 use Rattle.metric.specs.Edges.{edge_of}
 use Rattle.answer.specs.Rooms.{rooms_of}
-use Rattle.trees.specs.Lent.{treesOf}
-use Rattle.joinpairs.proofs.Outcomes.{same-rooms, tree-refused, rooms-refused, walk-told}
+use Rattle.trees.specs.Lent.{trees_of}
+use Rattle.joinpairs.proofs.Outcomes.{same_rooms, tree_refused, rooms_refused, walk-told}
 use Rattle.joinpairs.proofs.pairs.Statement.{statement}
 use Rattle.joinpairs.proofs.pairs.Tie as tie
 
 abbrev trees : tie.Start → Trees
-trees c = treesOf c.args.k c.args.lstarts.now c.args.lstems.now c.args.litems.now c.args.lcoords.now c.args.rstarts.now c.args.rstems.now c.args.ritems.now c.args.rcoords.now
+trees c = trees_of c.args.k c.args.lstarts.now c.args.lstems.now c.args.litems.now c.args.lcoords.now c.args.rstarts.now c.args.rstems.now c.args.ritems.now c.args.rcoords.now
 
 abbrev rooms : tie.Start → PairRooms
 rooms c = rooms_of c.args.lout.now c.args.rout.now c.args.dout.now
@@ -31,9 +31,9 @@ abbrev start : tie.Else1 → tie.Start
 start c = entry c.before
 
 accepted : (c : tie.Else1) → Accepts (trees (start c))
-accepted c = let j = trees (start c) in both-accepted (leftRefusal j) (rightRefusal j) c.before.refusal.ensures c.if1.false
+accepted c = let j = trees (start c) in both_accepted (left_refusal j) (right_refusal j) c.before.refusal.ensures c.if1.false
 
-agreed : (c : tie.Else2) → pairRoomsAgree (rooms (start (checked c.before))) ≡ true
+agreed : (c : tie.Else2) → pair_rooms_agree (rooms (start (checked c.before))) ≡ true
 agreed c = granted c.before.pairs-agree.ensures c.if2.false
 
 refusal-requires : tie.Need-refusal-requires
@@ -46,7 +46,7 @@ returns : tie.Need-returns
 returns c =
     let r = c.before.before in
     let s = entry r in
-    tree-refused (trees s) (edge_of s.args.under) s.args.radius (rooms s) c.refused.ensures r.refusal.ensures (omega arith)
+    tree_refused (trees s) (edge_of s.args.under) s.args.radius (rooms s) c.refused.ensures r.refusal.ensures (omega arith)
 
 pairs-agree-requires : tie.Need-pairs-agree-requires
 pairs-agree-requires c κs = search rules
@@ -67,12 +67,12 @@ returns-2 : tie.Need-returns-2
 returns-2 c =
     let g = c.before.before in
     let s = start (checked g) in
-    rooms-refused (trees s) (edge_of s.args.under) s.args.radius (rooms s) (accepted (checked g)) c.refused2.ensures (refused g.pairs-agree.ensures c.before.if2.true)
+    rooms_refused (trees s) (edge_of s.args.under) s.args.radius (rooms s) (accepted (checked g)) c.refused2.ensures (refused g.pairs-agree.ensures c.before.if2.true)
 
 walk-requires : tie.Need-walk-requires
 walk-requires c κs =
     let g = c.before.before.before in
-    (accepted (checked g.before), same-rooms (rooms (start (checked g.before))) (agreed g))
+    (accepted (checked g.before), same_rooms (rooms (start (checked g.before))) (agreed g))
 
 pairs-number-requires : tie.Need-pairs-number-requires
 pairs-number-requires c κs = search rules

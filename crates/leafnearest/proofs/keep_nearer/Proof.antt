@@ -6,20 +6,20 @@ use lib.ListN.{length, length-set}
 use lib.Ieee.{add, binary64}
 use Rattle.leaf.specs.Sums.{reached}
 use Rattle.leafnearest.specs.Answers.{answers, offered}
-use Rattle.leafnearest.specs.Each.{changedFrom, changed-all}
-use Rattle.leafnearest.proofs.Stored.{takes, length-answers, stored_next}
+use Rattle.leafnearest.specs.Each.{changed_from, changed_all}
+use Rattle.leafnearest.proofs.Stored.{takes, length_answers, stored_next}
 use borrow.Author.Rules.{rules}
 use Rattle.leafnearest.proofs.keep_nearer.Statement.{statement}
 use Rattle.leafnearest.proofs.keep_nearer.Tie as tie
 
 abbrev invariant-loop : tie.invariant-loop
-invariant-loop sums q column item items₀ dists₀ i₀ items dists i = (i ≤ length column) × (length column ≤ 32) × (length items ≡ length column) × (length dists ≡ length column) × (changedFrom (takes (reached sums q column) item) i i (answers items dists) ≡ offered (reached sums q column) item (answers items₀ dists₀))
+invariant-loop sums q column item items₀ dists₀ i₀ items dists i = (i ≤ length column) × (length column ≤ 32) × (length items ≡ length column) × (length dists ≡ length column) × (changed_from (takes (reached sums q column) item) i i (answers items dists) ≡ offered (reached sums q column) item (answers items₀ dists₀))
 
 abbrev decreases-loop : tie.decreases-loop
 decreases-loop sums q column item items₀ dists₀ i₀ items dists i = length column - i
 
 loop-holds : tie.Need-loop-init invariant-loop decreases-loop
-unfolding changedFrom
+unfolding changed_from
 loop-holds c =
     let h = c.before.before.before.requires in
     (omega arith, h.0, h.1, h.2, refl)
@@ -90,7 +90,7 @@ same-length-2 c = search rules
 returns : tie.Need-returns invariant-loop decreases-loop
 returns c =
     let w = c.before.loop in
-    sym (changed-all _ w.i w.i (answers w.items w.dists) (omega (arith, length-answers w.items w.dists (omega arith), c.loop-test.false))) ∙ w.invariant.4
+    sym (changed_all _ w.i w.i (answers w.items w.dists) (omega (arith, length_answers w.items w.dists (omega arith), c.loop-test.false))) ∙ w.invariant.4
 
 pub keep-nearer-spec : {M : Type 1} → statement M
 keep-nearer-spec =

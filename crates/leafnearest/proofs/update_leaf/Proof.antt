@@ -4,11 +4,11 @@ use Prim.Native.Nat.{◌-◌, ◌≤◌}
 use native.Mathlib.Nat.{le_trans}
 use native.Mathlib.Omega.{arith}
 use Rattle.leaf.specs.Lent.{join_of, LeafPair}
-use Rattle.leafnearest.specs.Each.{changedFrom, changed-none, changed-all}
+use Rattle.leafnearest.specs.Each.{changed_from, changed_none, changed_all}
 use Rattle.leafnearest.specs.Answers.{answers, Answering, improved}
 use Rattle.leafnearest.proofs.Improved.{improvement}
-use Rattle.leafnearest.proofs.Stored.{length-answers}
-use Rattle.leafnearest.proofs.Changed.{tile-ends, tile-pair, part-place, part_end, part-inside, length_part, part-changed}
+use Rattle.leafnearest.proofs.Stored.{length_answers}
+use Rattle.leafnearest.proofs.Changed.{tile_ends, tile_pair, part_place, part_end, part_inside, length_part, part_changed}
 use borrow.Author.Rules.{rules}
 use Rattle.leafnearest.proofs.update_leaf.Statement.{statement}
 use Rattle.leafnearest.proofs.update_leaf.Tie as tie
@@ -16,7 +16,7 @@ use Rattle.leafnearest.proofs.update_leaf.Tie as tie
 abbrev invariant-loop : tie.invariant-loop
 invariant-loop k litems lcoords ls lend ritems rcoords rs rend items₀ dists₀ la₀ items dists la =
     let j = join_of k litems lcoords ritems rcoords in
-    LeafPair k litems lcoords ls lend ritems rcoords rs rend × Answering ls lend items dists × (ls ≤ la) × (la ≤ lend) × (changedFrom (improvement j rs rend) la (la - ls) (answers items dists) ≡ improved j ls rs rend (answers items₀ dists₀))
+    LeafPair k litems lcoords ls lend ritems rcoords rs rend × Answering ls lend items dists × (ls ≤ la) × (la ≤ lend) × (changed_from (improvement j rs rend) la (la - ls) (answers items dists) ≡ improved j ls rs rend (answers items₀ dists₀))
 
 abbrev decreases-loop : tie.decreases-loop
 decreases-loop k litems lcoords ls lend ritems rcoords rs rend items₀ dists₀ la₀ items dists la = lend - la
@@ -25,7 +25,7 @@ loop-holds : tie.Need-loop-init invariant-loop decreases-loop
 loop-holds c =
     let s = c.before.before.before.before.before.before in
     let z : s.args.ls - s.args.ls ≡ 0 = omega arith in
-    (s.requires.0, s.requires.1, omega arith, s.requires.0.left.rising, rw z (changed-none _ _ _))
+    (s.requires.0, s.requires.1, omega arith, s.requires.0.left.rising, rw z (changed_none _ _ _))
 
 tile-end-requires : tie.Need-tile-end-requires invariant-loop decreases-loop
 tile-end-requires c κs = search rules
@@ -63,22 +63,22 @@ part-tile-nearest-end-2 c = search rules
 tile-nearest-requires : tie.Need-tile-nearest-requires invariant-loop decreases-loop
 tile-nearest-requires c κs =
     let w = c.before.before.before.before.loop in
-    let t = tile-ends c.before.before.before.loop-test.true c.before.before.tile-end.ensures in
+    let t = tile_ends c.before.before.before.loop-test.true c.before.before.tile-end.ensures in
     let h = w.invariant.2 in
-    (tile-pair w.invariant.0 h t.0 t.1 t.2, (length_part h t.0 t.1 w.items w.invariant.1.0, length_part h t.0 t.1 w.dists w.invariant.1.1))
+    (tile_pair w.invariant.0 h t.0 t.1 t.2, (length_part h t.0 t.1 w.items w.invariant.1.0, length_part h t.0 t.1 w.dists w.invariant.1.1))
 
 loop-less : tie.Need-loop-smaller invariant-loop decreases-loop
-loop-less c = (tile-ends c.before.before.before.before.before.before.before.before.loop-test.true c.before.before.before.before.before.before.before.tile-end.ensures).3
+loop-less c = (tile_ends c.before.before.before.before.before.before.before.before.loop-test.true c.before.before.before.before.before.before.before.tile-end.ensures).3
 
 loop-again : tie.Need-loop-preserved invariant-loop decreases-loop
 loop-again c =
     let w = c.before.before.before.before.before.before.before.before.before.loop in
     let a = c.before.before.before.before.before.before.before.before.before.before.before.before.before.before.before.before.args in
-    let t = tile-ends c.before.before.before.before.before.before.before.before.loop-test.true c.before.before.before.before.before.before.before.tile-end.ensures in
+    let t = tile_ends c.before.before.before.before.before.before.before.before.loop-test.true c.before.before.before.before.before.before.before.tile-end.ensures in
     let h = w.invariant.2 in
     let lent = c.before.before.before.before.tile-nearest.new in
     let j = join_of a.k a.litems.now a.lcoords.now a.ritems.now a.rcoords.now in
-    (w.invariant.0, search rules, le_trans h t.0, t.1, part-changed (improvement j a.rs a.rend) w.la (w.la - a.ls) _ w.items lent.1.1.1.1.1.1.1.1.1.0 w.dists lent.1.1.1.1.1.1.1.1.1.1.0 (w.invariant.1.0 ∙ sym w.invariant.1.1) (part-inside h t.0 t.1 w.items w.invariant.1.0) c.before.before.before.items.given.0 c.before.dists.given.0 c.before.before.before.before.tile-nearest.ensures (part-place h t.0 t.1) (part_end h t.0 t.1) ∙ w.invariant.4)
+    (w.invariant.0, search rules, le_trans h t.0, t.1, part_changed (improvement j a.rs a.rend) w.la (w.la - a.ls) _ w.items lent.1.1.1.1.1.1.1.1.1.0 w.dists lent.1.1.1.1.1.1.1.1.1.1.0 (w.invariant.1.0 ∙ sym w.invariant.1.1) (part_inside h t.0 t.1 w.items w.invariant.1.0) c.before.before.before.items.given.0 c.before.dists.given.0 c.before.before.before.before.tile-nearest.ensures (part_place h t.0 t.1) (part_end h t.0 t.1) ∙ w.invariant.4)
 
 same_length : tie.Need-same-length invariant-loop decreases-loop
 same_length c = search rules
@@ -89,7 +89,7 @@ same-length-2 c = search rules
 returns : tie.Need-returns invariant-loop decreases-loop
 returns c =
     let w = c.before.loop in
-    sym (changed-all _ w.la (w.la - _) (answers w.items w.dists) (omega (arith, length-answers w.items w.dists (omega arith), c.loop-test.false))) ∙ w.invariant.4
+    sym (changed_all _ w.la (w.la - _) (answers w.items w.dists) (omega (arith, length_answers w.items w.dists (omega arith), c.loop-test.false))) ∙ w.invariant.4
 
 pub update-leaf-spec : {M : Type 1} → statement M
 update-leaf-spec =

@@ -3,12 +3,12 @@ use Prim.Native.Nat.{suc, ◌-◌, ◌≤◌}
 use native.Mathlib.Nat.{le_refl}
 use native.Mathlib.Numerals.{add-one}
 use native.Mathlib.Omega.{arith}
-use Rattle.leaf.specs.Kept.{keeps, ofPoint, ofTilePair}
+use Rattle.leaf.specs.Kept.{keeps, of_point, of_tile_pair}
 use Rattle.leaf.specs.Lent.{TilePair}
 use Rattle.leaf.specs.Sums.{Fresh}
-use Rattle.leaf.proofs.Parts.{point-tile, fresh-row}
-use Rattle.leaf.proofs.Tiled.{point-next, points-done}
-use Rattle.leafpairs.proofs.Remaining.{Remaining, all_left, none_left, next-countable, next-left}
+use Rattle.leaf.proofs.Parts.{point_tile, fresh_row}
+use Rattle.leaf.proofs.Tiled.{point_next, points_done}
+use Rattle.leafpairs.proofs.Remaining.{Remaining, all_left, none_left, next_countable, next_left}
 use borrow.Author.Rules.{rules}
 use Rattle.leafpairs.proofs.tile_pair.Statement.{statement}
 use Rattle.leafpairs.proofs.tile_pair.Tie as tie
@@ -16,7 +16,7 @@ use Rattle.leafpairs.proofs.tile_pair.Tie as tie
 abbrev invariant-loop : tie.invariant-loop
 invariant-loop k radius under litems lcoords la le ritems rcoords ra re found lout₀ rout₀ dout₀ sums₀ dists₀ places₀ n₀ p₀ lout rout dout sums dists places n p =
     let f = keeps k radius under litems lcoords ritems rcoords in
-    (la ≤ p) × (p ≤ le) × TilePair k litems lcoords la le ritems rcoords ra re × Fresh k sums × Remaining found lout₀ rout₀ dout₀ (ofTilePair f la le ra re) n lout rout dout (ofTilePair f p le ra re)
+    (la ≤ p) × (p ≤ le) × TilePair k litems lcoords la le ritems rcoords ra re × Fresh k sums × Remaining found lout₀ rout₀ dout₀ (of_tile_pair f la le ra re) n lout rout dout (of_tile_pair f p le ra re)
 
 abbrev decreases-loop : tie.decreases-loop
 decreases-loop k radius under litems lcoords la le ritems rcoords ra re found lout₀ rout₀ dout₀ sums₀ dists₀ places₀ n₀ p₀ lout rout dout sums dists places n p = le - p
@@ -24,7 +24,7 @@ decreases-loop k radius under litems lcoords la le ritems rcoords ra re found lo
 loop-holds : tie.Need-loop-init invariant-loop decreases-loop
 loop-holds c =
     let s = c.before.before.before.before.before.before.before in
-    (le_refl _, s.requires.0.pair.left.rising, s.requires.0, fresh-row s.args.k, all_left s.requires.1.0 s.requires.1.1)
+    (le_refl _, s.requires.0.pair.left.rising, s.requires.0, fresh_row s.args.k, all_left s.requires.1.0 s.requires.1.1)
 
 point-tile-requires : tie.Need-point-tile-requires invariant-loop decreases-loop
 point-tile-requires c κs =
@@ -32,7 +32,7 @@ point-tile-requires c κs =
     let u = c.before.before.before.before.before.before.before.loop in
     let f = keeps a.k a.radius a.under a.litems.now a.lcoords.now a.ritems.now a.rcoords.now in
     let more = c.before.before.before.before.before.before.loop-test.true in
-    (point-tile u.invariant.2 u.invariant.0 more u.invariant.3, (u.invariant.4.same, next-countable u.invariant.4 (ofPoint f u.p a.ra a.re) (ofTilePair f (suc u.p) a.le a.ra a.re) (point-next f u.p a.le a.ra a.re more)))
+    (point_tile u.invariant.2 u.invariant.0 more u.invariant.3, (u.invariant.4.same, next_countable u.invariant.4 (of_point f u.p a.ra a.re) (of_tile_pair f (suc u.p) a.le a.ra a.re) (point_next f u.p a.le a.ra a.re more)))
 
 add-p : tie.Need-overflow-add-p invariant-loop decreases-loop
 add-p c = search rules
@@ -44,9 +44,9 @@ loop-again : tie.Need-loop-preserved invariant-loop decreases-loop
 loop-again c =
     let a = c.before.before.before.before.before.before.before.before.before.before.before.before.before.before.before.before.before.before.before.before.before.before.args in
     let u = c.before.before.before.before.before.before.before.before.before.before.before.before.before.before.loop in
-    let call = c.before.before.before.before.before.before.point-tile in
+    let call = c.before.before.before.before.before.before.point_tile in
     let f = keeps a.k a.radius a.under a.litems.now a.lcoords.now a.ritems.now a.rcoords.now in
-    (omega arith, omega arith, u.invariant.2, call.ensures.1, rw (add-one u.p) (next-left u.invariant.4 (ofPoint f u.p a.ra a.re) (ofTilePair f (suc u.p) a.le a.ra a.re) (point-next f u.p a.le a.ra a.re c.before.before.before.before.before.before.before.before.before.before.before.before.before.loop-test.true) (omega (arith, call.auto)) (omega (arith, call.auto)) (omega (arith, call.auto)) call.ensures.0))
+    (omega arith, omega arith, u.invariant.2, call.ensures.1, rw (add-one u.p) (next_left u.invariant.4 (of_point f u.p a.ra a.re) (of_tile_pair f (suc u.p) a.le a.ra a.re) (point_next f u.p a.le a.ra a.re c.before.before.before.before.before.before.before.before.before.before.before.before.before.loop-test.true) (omega (arith, call.auto)) (omega (arith, call.auto)) (omega (arith, call.auto)) call.ensures.0))
 
 same_length : tie.Need-same-length invariant-loop decreases-loop
 same_length c = search rules
@@ -62,7 +62,7 @@ returns c =
     let a = c.before.before.before.before.before.before.before.before.before.args in
     let u = c.before.loop in
     let f = keeps a.k a.radius a.under a.litems.now a.lcoords.now a.ritems.now a.rcoords.now in
-    none_left u.invariant.4 (points-done f u.p a.le a.ra a.re c.loop-test.false)
+    none_left u.invariant.4 (points_done f u.p a.le a.ra a.re c.loop-test.false)
 
 pub tile-pair-spec : {M : Type 1} → statement M
 tile-pair-spec =

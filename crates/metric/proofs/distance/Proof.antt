@@ -6,14 +6,14 @@ use native.Mathlib.Omega.{arith}
 use native.Mathlib.Numerals.{add-one}
 use lib.Ieee.{add, binary64, of_bits}
 use Rattle.rounding.specs.Distance.{distance}
-use Rattle.metric.specs.Lent.{pointAt}
+use Rattle.metric.specs.Lent.{point_at}
 use Rattle.metric.proofs.Laws.{inside}
 use borrow.Author.Rules.{rules}
 use Rattle.metric.proofs.distance.Statement.{statement}
 use Rattle.metric.proofs.distance.Tie as tie
 
 abbrev invariant-loop : tie.invariant-loop
-invariant-loop k lcoords ln p rcoords rn q sum₀ d₀ sum d = (d ≤ k) × (sum ≡ distance binary64 (pointAt lcoords ln p) (pointAt rcoords rn q) d)
+invariant-loop k lcoords ln p rcoords rn q sum₀ d₀ sum d = (d ≤ k) × (sum ≡ distance binary64 (point_at lcoords ln p) (point_at rcoords rn q) d)
 
 abbrev decreases-loop : tie.decreases-loop
 decreases-loop k lcoords ln p rcoords rn q sum₀ d₀ sum d = k - d

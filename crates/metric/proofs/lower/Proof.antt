@@ -6,14 +6,14 @@ use native.Mathlib.Numerals.{add-one}
 use lib.Ieee.{add, binary64, of_bits}
 use Rattle.rounding.specs.Bounds.{gap1}
 use Rattle.written.specs.Boxes.{lower}
-use Rattle.metric.specs.Flat.{boxesOf}
-use Rattle.metric.proofs.Laws.{at-axis}
+use Rattle.metric.specs.Flat.{boxes_of}
+use Rattle.metric.proofs.Laws.{at_axis}
 use borrow.Author.Rules.{rules}
 use Rattle.metric.proofs.lower.Statement.{statement}
 use Rattle.metric.proofs.lower.Tie as tie
 
 abbrev invariant-loop : tie.invariant-loop
-invariant-loop min max k sum₀ d₀ sum d = (d ≤ k) × (sum ≡ lower d (boxesOf min max))
+invariant-loop min max k sum₀ d₀ sum d = (d ≤ k) × (sum ≡ lower d (boxes_of min max))
 
 abbrev decreases-loop : tie.decreases-loop
 decreases-loop min max k sum₀ d₀ sum d = k - d
@@ -63,7 +63,7 @@ unfolding lower
 loop-again c =
     let d = c.before.before.before.before.before.before.loop.d in
     let a = c.before.before.before.before.before.before.before.args in
-    (omega arith, rw (add-one d) (ap₂ (add binary64) c.before.before.before.before.before.before.loop.invariant.1 (c.gap.ensures ∙ sym (at-axis (gap1 binary64) a.min.now a.max.now d))))
+    (omega arith, rw (add-one d) (ap₂ (add binary64) c.before.before.before.before.before.before.loop.invariant.1 (c.gap.ensures ∙ sym (at_axis (gap1 binary64) a.min.now a.max.now d))))
 
 returns : tie.Need-returns invariant-loop decreases-loop
 returns c =

@@ -5,16 +5,16 @@ use Prim.Native.Nat.{◌-◌, ◌≤◌, zero-le}
 use native.Mathlib.Omega.{arith}
 use native.Mathlib.Numerals.{add-one}
 use lib.Ieee.{add, div, binary64, of_bits}
-use Rattle.rounding.specs.Bounds.{reach1, bounded, everyAxis}
+use Rattle.rounding.specs.Bounds.{reach1, bounded, every_axis}
 use Rattle.rounding.specs.Distance.{summed}
 use Rattle.written.specs.Laws.Tests.{refused, granted}
-use Rattle.metric.proofs.Laws.{at-axis, reachAt, boundedAt, upper-closed, upper-open, fails, holds-next}
+use Rattle.metric.proofs.Laws.{at_axis, reach_at, bounded_at, upper_closed, upper_open, fails, holds_next}
 use borrow.Author.Rules.{rules}
 use Rattle.metric.proofs.upper.Statement.{statement}
 use Rattle.metric.proofs.upper.Tie as tie
 
 abbrev invariant-loop : tie.invariant-loop
-invariant-loop min max k sum₀ d₀ sum d = (d ≤ k) × (everyAxis (boundedAt min max) d ≡ true) × (sum ≡ summed binary64 (reachAt min max) d)
+invariant-loop min max k sum₀ d₀ sum d = (d ≤ k) × (every_axis (bounded_at min max) d ≡ true) × (sum ≡ summed binary64 (reach_at min max) d)
 
 abbrev decreases-loop : tie.decreases-loop
 decreases-loop min max k sum₀ d₀ sum d = k - d
@@ -58,9 +58,9 @@ unfolding div of_bits
 returns c =
     let d = c.before.before.before.before.before.before.before.loop.d in
     let a = c.before.before.before.before.before.before.before.before.args in
-    let test = boundedAt a.min.now a.max.now in
-    let off : test d ≡ false = refused (c.before.bounded.ensures ∙ sym (at-axis bounded a.min.now a.max.now d)) c.if1.true in
-    sym (upper-open a.min.now a.max.now a.k (fails test a.k d c.before.before.before.before.before.before.loop-test.true off))
+    let test = bounded_at a.min.now a.max.now in
+    let off : test d ≡ false = refused (c.before.bounded.ensures ∙ sym (at_axis bounded a.min.now a.max.now d)) c.if1.true in
+    sym (upper_open a.min.now a.max.now a.k (fails test a.k d c.before.before.before.before.before.before.loop-test.true off))
 
 reach-requires : tie.Need-reach-requires invariant-loop decreases-loop
 reach-requires c κs = search rules
@@ -77,17 +77,17 @@ loop-again c =
     let d = c.before.before.before.before.before.before.before.before.loop.d in
     let a = c.before.before.before.before.before.before.before.before.before.args in
     let inv = c.before.before.before.before.before.before.before.before.loop.invariant in
-    let test = boundedAt a.min.now a.max.now in
-    let on : test d ≡ true = granted (c.before.before.bounded.ensures ∙ sym (at-axis bounded a.min.now a.max.now d)) c.before.if1.false in (
+    let test = bounded_at a.min.now a.max.now in
+    let on : test d ≡ true = granted (c.before.before.bounded.ensures ∙ sym (at_axis bounded a.min.now a.max.now d)) c.before.if1.false in (
       omega arith,
-      rw (add-one d) (holds-next test d inv.1 on),
-      rw (add-one d) (ap₂ (add binary64) inv.2 (c.reach.ensures ∙ sym (at-axis (reach1 binary64) a.min.now a.max.now d))),
+      rw (add-one d) (holds_next test d inv.1 on),
+      rw (add-one d) (ap₂ (add binary64) inv.2 (c.reach.ensures ∙ sym (at_axis (reach1 binary64) a.min.now a.max.now d))),
     )
 
 returns-2 : tie.Need-returns-2 invariant-loop decreases-loop
 returns-2 c =
     let e : c.before.loop.d ≡ c.before.before.args.k = omega (arith, c.loop-test.false, c.before.loop.invariant.0) in
-    rw (← e) (c.before.loop.invariant.2 ∙ sym (upper-closed _ _ _ c.before.loop.invariant.1))
+    rw (← e) (c.before.loop.invariant.2 ∙ sym (upper_closed _ _ _ c.before.loop.invariant.1))
 
 pub upper-spec : {M : Type 1} → statement M
 upper-spec =

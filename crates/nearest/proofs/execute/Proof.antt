@@ -7,14 +7,14 @@ use lib.ListN.{length, drop}
 use lib.Seq.{length-take-le}
 use borrow.Author.Rules.{rules}
 use Rattle.written.specs.Boxes.{Trees}
-use Rattle.trees.specs.Lent.{treesOf}
-use Rattle.nearest.proofs.FirstPlaces.{still-room}
-use Rattle.nearest.proofs.Whole.{left-empty, right-empty, nothing-done, points, room-for-all, began, call-done}
+use Rattle.trees.specs.Lent.{trees_of}
+use Rattle.nearest.proofs.FirstPlaces.{still_room}
+use Rattle.nearest.proofs.Whole.{left_empty, right_empty, nothing_done, points, room_for_all, began, call_done}
 use Rattle.nearest.proofs.execute.Statement.{statement}
 use Rattle.nearest.proofs.execute.Tie as tie
 
 abbrev trees : tie.Start → Trees
-trees s = let a = s.args in treesOf a.k a.lstarts.now a.lstems.now a.litems.now a.lcoords.now a.rstarts.now a.rstems.now a.ritems.now a.rcoords.now
+trees s = let a = s.args in trees_of a.k a.lstarts.now a.lstems.now a.litems.now a.lcoords.now a.rstarts.now a.rstems.now a.ritems.now a.rcoords.now
 
 -- ---- a tree holds no points
 
@@ -24,7 +24,7 @@ none-requires c κs = search rules
 returns : tie.Need-returns
 returns c =
     let s = c.before.before.before.before.before.before.before.before.before.before.before.before in
-    nothing-done (trees s) (left-empty (trees s) c.before.if1.true) c.none.result s.args.items.now s.args.dists.now c.none.ensures.0 c.none.ensures.1
+    nothing_done (trees s) (left_empty (trees s) c.before.if1.true) c.none.result s.args.items.now s.args.dists.now c.none.ensures.0 c.none.ensures.1
 
 none-requires-2 : tie.Need-none-requires-2
 none-requires-2 c κs = search rules
@@ -32,7 +32,7 @@ none-requires-2 c κs = search rules
 returns-2 : tie.Need-returns-2
 returns-2 c =
     let s = c.before.before.before.before.before.before.before.before.before.before.before.before.before in
-    nothing-done (trees s) (right-empty (trees s) c.before.if2.true) c.none2.result s.args.items.now s.args.dists.now c.none2.ensures.0 c.none2.ensures.1
+    nothing_done (trees s) (right_empty (trees s) c.before.if2.true) c.none2.result s.args.items.now s.args.dists.now c.none2.ensures.0 c.none2.ensures.1
 
 -- ---- both hold points
 
@@ -41,7 +41,7 @@ begin c = c.before.before.before.before.before.before.before.before.before.befor
 
 -- so both rooms hold an answer for each left place
 room : (c : tie.Else2) → let a = (begin c).args in (length a.litems.now ≤ length a.items.now) × (length a.litems.now ≤ length a.dists.now)
-room c = let s = begin c in room-for-all (trees s) c.before.if1.false c.if2.false s.args.items.now s.args.dists.now s.pre.1.0 s.pre.1.1
+room c = let s = begin c in room_for_all (trees s) c.before.if1.false c.if2.false s.args.items.now s.args.dists.now s.pre.1.0 s.pre.1.1
 
 slice-relend-prefix-clear : tie.Need-slice-relend-prefix-clear
 slice-relend-prefix-clear c = (room c).0
@@ -64,7 +64,7 @@ room-again c =
     let a = (begin c.before.before.before.before.before.before.before).args in
     let z = c.before.before.before.before.clear.new in
     let r = room c.before.before.before.before.before.before.before in
-    (still-room (length a.litems.now) a.items.now z.0 r.0 c.before.before.before.items.given.0, still-room (length a.litems.now) a.dists.now z.1.0 r.1 c.before.dists.given.0)
+    (still_room (length a.litems.now) a.items.now z.0 r.0 c.before.before.before.items.given.0, still_room (length a.litems.now) a.dists.now z.1.0 r.1 c.before.dists.given.0)
 
 slice-relend-prefix-walk : tie.Need-slice-relend-prefix-walk
 slice-relend-prefix-walk c = (room-again c).0
@@ -100,7 +100,7 @@ returns-3 c =
     let e = q.before.before.before.before.before.before.before in
     let s = begin e in
     let z = q.before.before.before.before.clear in
-    call-done (trees s) e.before.if1.false e.if2.false s.args.items.now z.new.0 s.args.dists.now z.new.1.0 (room e) q.before.before.before.items.given.0 q.before.dists.given.0 s.pre.0 w.walk.new.1.1.1.1.1.1.1.1.1.0 w.walk.new.1.1.1.1.1.1.1.1.1.1.0 w.walk.result c.before.before.before.items2.given.0 c.before.dists2.given.0 w.walk.ensures
+    call_done (trees s) e.before.if1.false e.if2.false s.args.items.now z.new.0 s.args.dists.now z.new.1.0 (room e) q.before.before.before.items.given.0 q.before.dists.given.0 s.pre.0 w.walk.new.1.1.1.1.1.1.1.1.1.0 w.walk.new.1.1.1.1.1.1.1.1.1.1.0 w.walk.result c.before.before.before.items2.given.0 c.before.dists2.given.0 w.walk.ensures
 
 pub execute-spec : {M : Type 1} → statement M
 execute-spec =

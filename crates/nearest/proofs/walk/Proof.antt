@@ -7,23 +7,23 @@ use borrow.Author.Rules.{rules}
 use lib.ListN.{length}
 use Rattle.written.specs.Boxes.{Trees}
 use Rattle.written.specs.Check.{rule₁, rule₂}
-use Rattle.written.specs.NodePairs.{leftSide, rightSide}
-use Rattle.written.specs.Totals.{Totals, nearTotals}
+use Rattle.written.specs.NodePairs.{left_side, right_side}
+use Rattle.written.specs.Totals.{Totals, near_totals}
 use Rattle.written.specs.Answers.{Accepts}
-use Rattle.metric.specs.Flat.{boxesOf}
+use Rattle.metric.specs.Flat.{boxes_of}
 use Rattle.leafnearest.specs.Answers.{Answering}
 use Rattle.steps.specs.declared.waiting.Popped.TheVariants.{Entry}
-use Rattle.trees.specs.Lent.{treesOf}
-use Rattle.steps.proofs.Halves.{put-raised}
-use Rattle.steps.proofs.Waits.{view, taken, pop-takes, some-taken}
-use Rattle.steps.proofs.Reading.{keeps, ordered-both}
-use Rattle.steps.proofs.Going.{Going, start, at-hand, none-at-hand, room}
-use Rattle.steps.proofs.Visiting.{good-here, splits-here, axis-small, slot_small, turn-to-near, turn-to-both}
-use Rattle.steps.proofs.Taking.{half-axis, half-slot, turn-to-half, side-axis, side-slot, turn-to-back, turn-over}
+use Rattle.trees.specs.Lent.{trees_of}
+use Rattle.steps.proofs.Halves.{put_raised}
+use Rattle.steps.proofs.Waits.{view, taken, pop_takes, some_taken}
+use Rattle.steps.proofs.Reading.{keeps, ordered_both}
+use Rattle.steps.proofs.Going.{Going, start, at_hand, none_at_hand, room}
+use Rattle.steps.proofs.Visiting.{good_here, splits_here, axis_small, slot_small, turn_to_near, turn_to_both}
+use Rattle.steps.proofs.Taking.{half_axis, half_slot, turn_to_half, side_axis, side_slot, turn_to_back, turn_over}
 use Rattle.nearvisit.specs.Held.{Held, held_of}
 use Rattle.nearest.specs.Walked.{walked}
-use Rattle.nearest.proofs.Carrying.{begins, nearestWalk}
-use Rattle.nearest.proofs.Turning.{held-begun, tally-examined, leaves-here, held-here, box-here, splits-with, turn-finish, few-examined, unvisited-yet}
+use Rattle.nearest.proofs.Carrying.{begins, nearest_walk}
+use Rattle.nearest.proofs.Turning.{held_begun, tally_examined, leaves_here, held_here, box_here, splits_with, turn_finish, few_examined, unvisited_yet}
 use Rattle.nearest.proofs.walk.Statement.{statement}
 use Rattle.nearest.proofs.walk.Tie as tie
 
@@ -34,15 +34,15 @@ idle false = 1
 
 abbrev invariant-loop : tie.invariant-loop
 invariant-loop k lstarts lstems litems lcoords rstarts rstems ritems rcoords items₀ dists₀ at₀ b₀ t₀ stack₀ len₀ here₀ items dists at b t stack len here =
-    let j : Trees = treesOf k lstarts lstems litems lcoords rstarts rstems ritems rcoords in
+    let j : Trees = trees_of k lstarts lstems litems lcoords rstarts rstems ritems rcoords in
     Accepts j
     × Answering 0 (length litems) items₀ dists₀
     × Answering 0 (length litems) items dists
-    × Going (nearestWalk j) (walked j) at (boxesOf b.min b.max) (held_of t items dists) stack len here
+    × Going (nearest_walk j) (walked j) at (boxes_of b.min b.max) (held_of t items dists) stack len here
 
 abbrev decreases-loop : tie.decreases-loop
 decreases-loop k lstarts lstems litems lcoords rstarts rstems ritems rcoords items₀ dists₀ at₀ b₀ t₀ stack₀ len₀ here₀ items dists at b t stack len here =
-    3 * ((nearTotals (treesOf k lstarts lstems litems lcoords rstarts rstems ritems rcoords)).visits - t.totals.visits) + len + idle here
+    3 * ((near_totals (trees_of k lstarts lstems litems lcoords rstarts rstems ritems rcoords)).visits - t.totals.visits) + len + idle here
 
 -- ---- the way up from each place to where its turn began: all that a change of the code moves
 
@@ -75,8 +75,8 @@ entered3 c = c.before.before.before
 
 roots-requires : tie.Need-roots-requires invariant-loop decreases-loop
 roots-requires c κs = let s = c.before.before.before.before.before.before.before.before.before.before in
-    let l = keeps _ s.requires.0 leftSide rule₂ in
-    let r = keeps _ s.requires.0 rightSide rule₂ in
+    let l = keeps _ s.requires.0 left_side rule₂ in
+    let r = keeps _ s.requires.0 right_side rule₂ in
     (l.0, l.1, r.0, r.1)
 
 everywhere-requires : tie.Need-everywhere-requires invariant-loop decreases-loop
@@ -88,19 +88,19 @@ none-requires c κs = tt
 loop-holds : tie.Need-loop-init invariant-loop decreases-loop
 loop-holds c = let s = c.before.before.before.before.before.before.before.before.before.before.before.before.before in
     let a = s.args in
-    let j : Trees = treesOf a.k a.lstarts.now a.lstems.now a.litems.now a.lcoords.now a.rstarts.now a.rstems.now a.ritems.now a.rcoords.now in
-    let held = held-begun j c.none.result a.items.now a.dists.now c.none.ensures s.requires.1.1.1 in
-    (s.requires.0, s.requires.1.1.0, s.requires.1.1.0, start (nearestWalk j) s.requires.0 _ _ refl c.before.before.roots.ensures.0 c.before.before.roots.ensures.1 c.before.everywhere.ensures (begins j s.requires.1.0 held))
+    let j : Trees = trees_of a.k a.lstarts.now a.lstems.now a.litems.now a.lcoords.now a.rstarts.now a.rstems.now a.ritems.now a.rcoords.now in
+    let held = held_begun j c.none.result a.items.now a.dists.now c.none.ensures s.requires.1.1.1 in
+    (s.requires.0, s.requires.1.1.0, s.requires.1.1.0, start (nearest_walk j) s.requires.0 _ _ refl c.before.before.roots.ensures.0 c.before.before.roots.ensures.1 c.before.everywhere.ensures (begins j s.requires.1.0 held))
 
 visited-requires : tie.Need-visited-requires invariant-loop decreases-loop
-visited-requires c κs = let i = c.before.loop.invariant in omega (arith, unvisited-yet _ i.0 (at-hand c.if1.true i.3))
+visited-requires c κs = let i = c.before.loop.invariant in omega (arith, unvisited_yet _ i.0 (at_hand c.if1.true i.3))
 
 choose-requires : tie.Need-choose-requires invariant-loop decreases-loop
 choose-requires c κs = let v = seen c.before.before.before.before in
     let l = v.before.loop in
     let i = l.inv in
-    let g = at-hand v.if1.taken i.3 in
-    ((keeps _ i.0 leftSide rule₁).1, ordered-both _ i.0 _ (good-here i.0 g).node, held-here _ i.0 l.items l.dists i.2 g)
+    let g = at_hand v.if1.taken i.3 in
+    ((keeps _ i.0 left_side rule₁).1, ordered_both _ i.0 _ (good_here i.0 g).node, held_here _ i.0 l.items l.dists i.2 g)
 
 enum-known-m : tie.Need-enum-known-m invariant-loop decreases-loop
 enum-known-m c = search rules
@@ -111,16 +111,16 @@ finish-requires c κs = let m = c.before.before.before.before.before.before in
     let v = seen (chose h) in
     let l = v.before.loop in
     let i = l.inv in
-    let g = at-hand v.if1.taken i.3 in
-    (leaves-here _ i.0 l.items l.dists i.2 g, (i.2, (few-examined _ i.0 g _ _ refl (chose h).visited.ensures, box-here _ i.0 l.items l.dists i.2 g)))
+    let g = at_hand v.if1.taken i.3 in
+    (leaves_here _ i.0 l.items l.dists i.2 g, (i.2, (few_examined _ i.0 g _ _ refl (chose h).visited.ensures, box_here _ i.0 l.items l.dists i.2 g)))
 
 loop-less : tie.Need-loop-smaller invariant-loop decreases-loop
 loop-less c = let f = c.before.before.before.before in
     let h = (ending f).before.before in
     let v = seen (chose h) in
     let i = v.before.loop.inv in
-    let g = at-hand v.if1.taken i.3 in
-    simp v.if1.taken (omega (arith, unvisited-yet _ i.0 g, ap (λ (w : Held). w.totals.visits) f.finish.ensures, ap (λ (t : Totals). t.visits) (chose h).visited.ensures.1))
+    let g = at_hand v.if1.taken i.3 in
+    simp v.if1.taken (omega (arith, unvisited_yet _ i.0 g, ap (λ (w : Held). w.totals.visits) f.finish.ensures, ap (λ (t : Totals). t.visits) (chose h).visited.ensures.1))
 
 loop-again : tie.Need-loop-preserved invariant-loop decreases-loop
 loop-again c = let f = c.before.before.before.before in
@@ -129,8 +129,8 @@ loop-again c = let f = c.before.before.before.before in
     let v = seen (chose h) in
     let l = v.before.loop in
     let i = l.inv in
-    let g = at-hand v.if1.taken i.3 in
-    (i.0, i.1, (c.before.before.before.items.given ∙ i.2.0, c.before.dists.given ∙ i.2.1), turn-finish _ i.0 l.items l.dists i.2 g _ m.m.given.1 h.choose.ensures (tally-examined _ _ l.items l.dists (chose h).visited.ensures) f.finish.ensures)
+    let g = at_hand v.if1.taken i.3 in
+    (i.0, i.1, (c.before.before.before.items.given ∙ i.2.0, c.before.dists.given ∙ i.2.1), turn_finish _ i.0 l.items l.dists i.2 g _ m.m.given.1 h.choose.ensures (tally_examined _ _ l.items l.dists (chose h).visited.ensures) f.finish.ensures)
 
 enum-known-m-2 : tie.Need-enum-known-m-2 invariant-loop decreases-loop
 enum-known-m-2 c = search rules
@@ -141,8 +141,8 @@ descend-requires c κs = let m = c.before in
     let v = seen (chose h) in
     let l = v.before.loop in
     let i = l.inv in
-    let g = at-hand v.if1.taken i.3 in
-    splits-here i.0 g (splits-with _ i.0 l.items l.dists i.2 g m.m2.given.1 h.choose.ensures)
+    let g = at_hand v.if1.taken i.3 in
+    splits_here i.0 g (splits_with _ i.0 l.items l.dists i.2 g m.m2.given.1 h.choose.ensures)
 
 is-top-requires : tie.Need-is-top-requires invariant-loop decreases-loop
 is-top-requires c κs = tt
@@ -151,7 +151,7 @@ loop-less-2 : tie.Need-loop-smaller-2 invariant-loop decreases-loop
 loop-less-2 c = let h = (splitting (halved c.before)).before.before in
     let v = seen (chose h) in
     let i = v.before.loop.inv in
-    simp v.if1.taken (omega (arith, unvisited-yet _ i.0 (at-hand v.if1.taken i.3), ap (λ (t : Totals). t.visits) (chose h).visited.ensures.1))
+    simp v.if1.taken (omega (arith, unvisited_yet _ i.0 (at_hand v.if1.taken i.3), ap (λ (t : Totals). t.visits) (chose h).visited.ensures.1))
 
 loop-again-2 : tie.Need-loop-preserved-2 invariant-loop decreases-loop
 loop-again-2 c = let d = halved c.before in
@@ -160,8 +160,8 @@ loop-again-2 c = let d = halved c.before in
     let v = seen (chose h) in
     let l = v.before.loop in
     let i = l.inv in
-    let g = at-hand v.if1.taken i.3 in
-    (i.0, i.1, i.2, turn-to-near i.0 g _ (splits-with _ i.0 l.items l.dists i.2 g m.m2.given.1 h.choose.ensures) _ d.descend.ensures (tally-examined _ _ l.items l.dists (chose h).visited.ensures) v.if1.taken (sym c.before.is-top.ensures ∙ c.if2.true))
+    let g = at_hand v.if1.taken i.3 in
+    (i.0, i.1, i.2, turn_to_near i.0 g _ (splits_with _ i.0 l.items l.dists i.2 g m.m2.given.1 h.choose.ensures) _ d.descend.ensures (tally_examined _ _ l.items l.dists (chose h).visited.ensures) v.if1.taken (sym c.before.is-top.ensures ∙ c.if2.true))
 
 -- a split's axis is one of four, and its box side one of eight
 small-axis : (c : tie.Else2 invariant-loop decreases-loop) → (halved c.before).descend.result.axis < 4
@@ -172,8 +172,8 @@ small-axis c =
     let v = seen (chose h) in
     let l = v.before.loop in
     let i = l.inv in
-    let g = at-hand v.if1.taken i.3 in
-    axis-small i.0 g _ (splits-with _ i.0 l.items l.dists i.2 g m.m2.given.1 h.choose.ensures) _ d.descend.ensures
+    let g = at_hand v.if1.taken i.3 in
+    axis_small i.0 g _ (splits_with _ i.0 l.items l.dists i.2 g m.m2.given.1 h.choose.ensures) _ d.descend.ensures
 
 small_slot : (c : tie.After-slot invariant-loop decreases-loop) → c.slot.result < 8
 small_slot c =
@@ -183,8 +183,8 @@ small_slot c =
     let v = seen (chose h) in
     let l = v.before.loop in
     let i = l.inv in
-    let g = at-hand v.if1.taken i.3 in
-    slot_small i.0 g _ (splits-with _ i.0 l.items l.dists i.2 g m.m2.given.1 h.choose.ensures) _ d.descend.ensures c.slot.ensures
+    let g = at_hand v.if1.taken i.3 in
+    slot_small i.0 g _ (splits_with _ i.0 l.items l.dists i.2 g m.m2.given.1 h.choose.ensures) _ d.descend.ensures c.slot.ensures
 
 slot-requires : tie.Need-slot-requires invariant-loop decreases-loop
 slot-requires c κs = small-axis c
@@ -229,7 +229,7 @@ loop-less-3 : tie.Need-loop-smaller-3 invariant-loop decreases-loop
 loop-less-3 c = let h = (splitting (halved c.before.before.before.before.before)).before.before in
     let v = seen (chose h) in
     let i = v.before.loop.inv in
-    simp v.if1.taken (omega (arith, unvisited-yet _ i.0 (at-hand v.if1.taken i.3), ap (λ (t : Totals). t.visits) (chose h).visited.ensures.1))
+    simp v.if1.taken (omega (arith, unvisited_yet _ i.0 (at_hand v.if1.taken i.3), ap (λ (t : Totals). t.visits) (chose h).visited.ensures.1))
 
 loop-again-3 : tie.Need-loop-preserved-3 invariant-loop decreases-loop
 loop-again-3 c = let n = c.before.before.before in
@@ -239,8 +239,8 @@ loop-again-3 c = let n = c.before.before.before in
     let v = seen (chose h) in
     let l = v.before.loop in
     let i = l.inv in
-    let g = at-hand v.if1.taken i.3 in
-    (i.0, i.1, i.2, turn-to-both i.0 g _ (splits-with _ i.0 l.items l.dists i.2 g m.m2.given.1 h.choose.ensures) _ d.descend.ensures (tally-examined _ _ l.items l.dists (chose h).visited.ensures) v.if1.taken n.slot.ensures (put-raised (boxesOf l.b.min l.b.max) n.slot.result _ c.raised.ensures) (sym n.before.before.is-top.ensures ∙ n.before.if2.false))
+    let g = at_hand v.if1.taken i.3 in
+    (i.0, i.1, i.2, turn_to_both i.0 g _ (splits_with _ i.0 l.items l.dists i.2 g m.m2.given.1 h.choose.ensures) _ d.descend.ensures (tally_examined _ _ l.items l.dists (chose h).visited.ensures) v.if1.taken n.slot.ensures (put_raised (boxes_of l.b.min l.b.max) n.slot.result _ c.raised.ensures) (sym n.before.before.is-top.ensures ∙ n.before.if2.false))
 
 top-of-requires : tie.Need-top-of-requires invariant-loop decreases-loop
 top-of-requires c κs = tt
@@ -256,7 +256,7 @@ pop-requires c κs = tt
 
 -- what the pop answers is what waits last
 answered : (p : tie.After-pop invariant-loop decreases-loop) → taken (view (idling p).before.loop.len (idling p).before.loop.stack) ≡ p.pop.result
-answered p = pop-takes _ p.before.before.top_of.result _ _ p.before.before.top_of.ensures p.pop.ensures
+answered p = pop_takes _ p.before.before.top_of.result _ _ p.before.before.top_of.ensures p.pop.ensures
 
 enum-known-w : tie.Need-enum-known-w invariant-loop decreases-loop
 enum-known-w c = search rules
@@ -273,10 +273,10 @@ same-length-2 c = let i = (idling c.before.before).before.loop.inv in omega (ari
 returns : tie.Need-returns invariant-loop decreases-loop
 returns c = let p = c.before.before in
     let i = (idling p).before.loop.invariant in
-    turn-over i.0 (none-at-hand (idling p).if1.false i.3) (answered p ∙ c.enum_told.given.1)
+    turn_over i.0 (none_at_hand (idling p).if1.false i.3) (answered p ∙ c.enum_told.given.1)
 
 some-waited : (c : tie.After-w invariant-loop decreases-loop) → 0 < (idling (taking c)).before.loop.len
-some-waited c = let l = (idling (taking c)).before.loop in (some-taken l.len l.stack (answered (taking c) ∙ c.w.given.1)).0
+some-waited c = let l = (idling (taking c)).before.loop in (some_taken l.len l.stack (answered (taking c) ∙ c.w.given.1)).0
 
 sub-len : tie.Need-overflow-sub-len invariant-loop decreases-loop
 sub-len c = omega (arith, some-waited c.before)
@@ -288,9 +288,9 @@ slot-requires-2 : tie.Need-slot-requires-2 invariant-loop decreases-loop
 slot-requires-2 c κs = let w = c.before in
     let p = taking (entered w) in
     let i = (idling p).before.loop.inv in
-    let g = none-at-hand (idling p).if1.left i.3 in
+    let g = none_at_hand (idling p).if1.left i.3 in
     let e = answered p ∙ (entered w).w.given.1 ∙ ap Entry w.w2.given.1 in
-    half-axis i.0 g _ _ _ _ _ _ e
+    half_axis i.0 g _ _ _ _ _ _ e
 
 lowered-requires : tie.Need-lowered-requires invariant-loop decreases-loop
 lowered-requires c κs = tt
@@ -300,9 +300,9 @@ near-slot c =
     let w = c.before.before in
     let p = taking (entered w) in
     let i = (idling p).before.loop.inv in
-    let g = none-at-hand (idling p).if1.left i.3 in
+    let g = none_at_hand (idling p).if1.left i.3 in
     let e = answered p ∙ (entered w).w.given.1 ∙ ap Entry w.w2.given.1 in
-    half-slot i.0 g _ _ _ _ _ _ e c.slot2.ensures
+    half_slot i.0 g _ _ _ _ _ _ e c.slot2.ensures
 
 mul-b-2 : tie.Need-overflow-mul-b-2 invariant-loop decreases-loop
 mul-b-2 c = omega (arith, near-slot c)
@@ -335,9 +335,9 @@ loop-again-4 : tie.Need-loop-preserved-4 invariant-loop decreases-loop
 loop-again-4 c = let w = c.before.before.before in
     let p = taking (entered w) in
     let i = (idling p).before.loop.inv in
-    let g = none-at-hand (idling p).if1.left i.3 in
+    let g = none_at_hand (idling p).if1.left i.3 in
     let e = answered p ∙ (entered w).w.given.1 ∙ ap Entry w.w2.given.1 in
-    (i.0, i.1, i.2, turn-to-half i.0 g _ _ _ _ _ _ e c.before.slot2.ensures refl c.lowered.ensures (search rules))
+    (i.0, i.1, i.2, turn_to_half i.0 g _ _ _ _ _ _ e c.before.slot2.ensures refl c.lowered.ensures (search rules))
 
 enum-known-w-3 : tie.Need-enum-known-w-3 invariant-loop decreases-loop
 enum-known-w-3 c = search rules
@@ -346,18 +346,18 @@ slot-requires-3 : tie.Need-slot-requires-3 invariant-loop decreases-loop
 slot-requires-3 c κs = let w = c.before in
     let p = taking (entered3 w) in
     let i = (idling p).before.loop.inv in
-    let g = none-at-hand (idling p).if1.left i.3 in
+    let g = none_at_hand (idling p).if1.left i.3 in
     let e = answered p ∙ (entered3 w).w.given.1 ∙ ap Entry w.w3.given.1 in
-    side-axis i.0 g _ _ _ _ e
+    side_axis i.0 g _ _ _ _ e
 
 back-slot : (c : tie.After-slot3 invariant-loop decreases-loop) → c.slot3.result < 8
 back-slot c =
     let w = c.before.before in
     let p = taking (entered3 w) in
     let i = (idling p).before.loop.inv in
-    let g = none-at-hand (idling p).if1.left i.3 in
+    let g = none_at_hand (idling p).if1.left i.3 in
     let e = answered p ∙ (entered3 w).w.given.1 ∙ ap Entry w.w3.given.1 in
-    side-slot i.0 g _ _ _ _ e c.slot3.ensures
+    side_slot i.0 g _ _ _ _ e c.slot3.ensures
 
 mul-b-4 : tie.Need-overflow-mul-b-4 invariant-loop decreases-loop
 mul-b-4 c = omega (arith, back-slot c)
@@ -378,9 +378,9 @@ loop-again-5 : tie.Need-loop-preserved-5 invariant-loop decreases-loop
 loop-again-5 c = let w = c.before.before in
     let p = taking (entered3 w) in
     let i = (idling p).before.loop.inv in
-    let g = none-at-hand (idling p).if1.left i.3 in
+    let g = none_at_hand (idling p).if1.left i.3 in
     let e = answered p ∙ (entered3 w).w.given.1 ∙ ap Entry w.w3.given.1 in
-    (i.0, i.1, i.2, turn-to-back i.0 g _ _ _ _ e c.slot3.ensures (idling p).if1.left)
+    (i.0, i.1, i.2, turn_to_back i.0 g _ _ _ _ e c.slot3.ensures (idling p).if1.left)
 
 pub walk-spec : {M : Type 1} → statement M
 walk-spec =

@@ -5,14 +5,14 @@ use native.Mathlib.Omega.{arith}
 use lib.ListN.{length, take, get_or}
 use lib.Seq.{get_or-take}
 use Rattle.rooms.specs.Rooms.{filling, puts, SameRooms}
-use Rattle.rooms.specs.Emitted.{pairsAt, Emits}
-use Rattle.rooms.proofs.Filled.{none-stored, stored_next, stored-all}
+use Rattle.rooms.specs.Emitted.{pairs_at, Emits}
+use Rattle.rooms.proofs.Filled.{none_stored, stored_next, stored_all}
 use borrow.Author.Rules.{rules}
 use Rattle.rooms.proofs.emit.Statement.{statement}
 use Rattle.rooms.proofs.emit.Tie as tie
 
 abbrev invariant-loop : tie.invariant-loop
-invariant-loop dists places m left ritems found lout₀ rout₀ dout₀ fit at i₀ lout rout dout i = Emits (take m places) m ritems found × SameRooms lout rout dout × (length lout ≡ length lout₀) × (i ≤ fit) × (fit ≡ min m (length lout₀ - found)) × (filling (found + i) lout rout dout ≡ puts (filling found lout₀ rout₀ dout₀) (take i (pairsAt dists left ritems (take m places))))
+invariant-loop dists places m left ritems found lout₀ rout₀ dout₀ fit at i₀ lout rout dout i = Emits (take m places) m ritems found × SameRooms lout rout dout × (length lout ≡ length lout₀) × (i ≤ fit) × (fit ≡ min m (length lout₀ - found)) × (filling (found + i) lout rout dout ≡ puts (filling found lout₀ rout₀ dout₀) (take i (pairs_at dists left ritems (take m places))))
 
 abbrev decreases-loop : tie.decreases-loop
 decreases-loop dists places m left ritems found lout₀ rout₀ dout₀ fit at i₀ lout rout dout i = fit - i
@@ -25,13 +25,13 @@ inside : (c : tie.In-loop invariant-loop decreases-loop) → let a = c.before.be
 inside c =
     let a = c.before.before.before.before.before.before.before.args in
     let i = c.before.loop.i in
-    rw (get_or-take a.m a.places.now i 0 (omega arith)) at (c.before.loop.invariant.0.in-tile i (omega arith))
+    rw (get_or-take a.m a.places.now i 0 (omega arith)) at (c.before.loop.invariant.0.in_tile i (omega arith))
 
 loop-holds : tie.Need-loop-init invariant-loop decreases-loop
 loop-holds c =
     let s = c.before.before.before.before.before in
     let a = s.args in
-    (s.requires.0, s.requires.1, refl, zero-le, c.fitting.ensures, none-stored a.found a.lout.now a.rout.now a.dout.now)
+    (s.requires.0, s.requires.1, refl, zero-le, c.fitting.ensures, none_stored a.found a.lout.now a.rout.now a.dout.now)
 
 mul-j : tie.Need-overflow-mul-j invariant-loop decreases-loop
 mul-j c = search rules
@@ -97,7 +97,7 @@ returns c =
     let a = c.before.before.before.before.before.before.before.args in
     let fit = c.before.before.fitting.result in
     let e : u.i ≡ fit = omega (arith, c.loop-test.false, u.invariant.3) in
-    stored-all _ _ (take a.m a.places.now) a.found a.m fit u.invariant.0.many (omega (arith, u.invariant.4, u.invariant.2)) u.invariant.1 (rw (← e) u.invariant.5)
+    stored_all _ _ (take a.m a.places.now) a.found a.m fit u.invariant.0.many (omega (arith, u.invariant.4, u.invariant.2)) u.invariant.1 (rw (← e) u.invariant.5)
 
 pub emit-spec : {M : Type 1} → statement M
 emit-spec =

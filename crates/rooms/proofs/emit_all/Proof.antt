@@ -4,15 +4,15 @@ use Prim.Native.Nat.{◌+◌, ◌-◌, ◌≤◌, min, zero-le}
 use native.Mathlib.Omega.{arith}
 use lib.ListN.{length, take}
 use Rattle.rooms.specs.Rooms.{filling, puts, SameRooms}
-use Rattle.rooms.specs.Emitted.{placesBelow, pairsAt, Emits}
+use Rattle.rooms.specs.Emitted.{places_below, pairs_at, Emits}
 use Rattle.rooms.proofs.Places.{below_at}
-use Rattle.rooms.proofs.Filled.{none-stored, stored_next, stored-all}
+use Rattle.rooms.proofs.Filled.{none_stored, stored_next, stored_all}
 use borrow.Author.Rules.{rules}
 use Rattle.rooms.proofs.emit_all.Statement.{statement}
 use Rattle.rooms.proofs.emit_all.Tie as tie
 
 abbrev invariant-loop : tie.invariant-loop
-invariant-loop dists left ritems found lout₀ rout₀ dout₀ fit at j₀ lout rout dout j = Emits (placesBelow (length ritems)) (length ritems) ritems found × SameRooms lout rout dout × (length lout ≡ length lout₀) × (j ≤ fit) × (fit ≡ min (length ritems) (length lout₀ - found)) × (filling (found + j) lout rout dout ≡ puts (filling found lout₀ rout₀ dout₀) (take j (pairsAt dists left ritems (placesBelow (length ritems)))))
+invariant-loop dists left ritems found lout₀ rout₀ dout₀ fit at j₀ lout rout dout j = Emits (places_below (length ritems)) (length ritems) ritems found × SameRooms lout rout dout × (length lout ≡ length lout₀) × (j ≤ fit) × (fit ≡ min (length ritems) (length lout₀ - found)) × (filling (found + j) lout rout dout ≡ puts (filling found lout₀ rout₀ dout₀) (take j (pairs_at dists left ritems (places_below (length ritems)))))
 
 abbrev decreases-loop : tie.decreases-loop
 decreases-loop dists left ritems found lout₀ rout₀ dout₀ fit at j₀ lout rout dout j = fit - j
@@ -24,7 +24,7 @@ loop-holds : tie.Need-loop-init invariant-loop decreases-loop
 loop-holds c =
     let s = c.before.before.before.before.before in
     let a = s.args in
-    (s.requires.0, s.requires.1, refl, zero-le, c.fitting.ensures, none-stored a.found a.lout.now a.rout.now a.dout.now)
+    (s.requires.0, s.requires.1, refl, zero-le, c.fitting.ensures, none_stored a.found a.lout.now a.rout.now a.dout.now)
 
 mul_right : tie.Need-overflow-mul-right invariant-loop decreases-loop
 mul_right c = search rules
@@ -61,7 +61,7 @@ loop-again c =
       omega (arith, u.invariant.2, store.auto),
       omega arith,
       u.invariant.4,
-      stored_next _ _ (placesBelow n) a.found u.j u.j (omega (arith, u.invariant.0.many)) (below_at n u.j (omega arith)) u.invariant.5 store.ensures,
+      stored_next _ _ (places_below n) a.found u.j u.j (omega (arith, u.invariant.0.many)) (below_at n u.j (omega arith)) u.invariant.5 store.ensures,
     )
 
 add-result : tie.Need-overflow-add-result invariant-loop decreases-loop
@@ -83,7 +83,7 @@ returns c =
     let n = length a.ritems.now in
     let fit = c.before.before.fitting.result in
     let e : u.j ≡ fit = omega (arith, c.loop-test.false, u.invariant.3) in
-    stored-all _ _ (placesBelow n) a.found n fit u.invariant.0.many (omega (arith, u.invariant.4, u.invariant.2)) u.invariant.1 (rw (← e) u.invariant.5)
+    stored_all _ _ (places_below n) a.found n fit u.invariant.0.many (omega (arith, u.invariant.4, u.invariant.2)) u.invariant.1 (rw (← e) u.invariant.5)
 
 pub emit-all-spec : {M : Type 1} → statement M
 emit-all-spec =

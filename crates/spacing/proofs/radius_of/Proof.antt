@@ -1,11 +1,11 @@
 -- The square of a length, as it is defined. Assumes nothing.
 use mathlib.Core.Path.{refl}
-use Rattle.written.specs.Spacing.{radiusOf}
+use Rattle.written.specs.Spacing.{radius_of}
 use Rattle.spacing.proofs.radius_of.Statement.{statement}
 use Rattle.spacing.proofs.radius_of.Tie as tie
 
 returns : tie.Need-returns
-unfolding radiusOf
+unfolding radius_of
 returns c = refl
 
 pub radius-of-spec : {M : Type 1} → statement M

@@ -6,29 +6,29 @@ use native.Mathlib.Omega.{arith}
 use borrow.Author.Rules.{rules}
 use Rattle.written.specs.Boxes.{Trees}
 use Rattle.written.specs.Check.{rule₁, rule₂}
-use Rattle.written.specs.NodePairs.{leftSide, rightSide}
-use Rattle.written.specs.Totals.{Totals, walkTotals}
+use Rattle.written.specs.NodePairs.{left_side, right_side}
+use Rattle.written.specs.Totals.{Totals, walk_totals}
 use Rattle.written.specs.Answers.{Accepts}
 use Rattle.written.specs.Laws.Tests.{refused, granted}
 use Rattle.metric.specs.Edges.{edge_of}
-use Rattle.metric.specs.Flat.{boxesOf}
+use Rattle.metric.specs.Flat.{boxes_of}
 use Rattle.rooms.specs.Rooms.{SameRooms}
 use Rattle.steps.specs.declared.waiting.Popped.TheVariants.{Entry}
-use Rattle.trees.specs.Lent.{treesOf}
+use Rattle.trees.specs.Lent.{trees_of}
 use Rattle.answer.specs.Rooms.{rooms_of}
-use Rattle.steps.proofs.Waits.{view, taken, pop-takes, some-taken}
-use Rattle.steps.proofs.Reading.{keeps, ordered-both, leaves-read}
-use Rattle.steps.proofs.Going.{Going, start, at-hand, none-at-hand, room}
-use Rattle.steps.proofs.Halves.{put-lowered}
-use Rattle.steps.proofs.Visiting.{good-here, splits-here, axis-small, slot_small, turn-to-near, turn-to-both}
-use Rattle.steps.proofs.Taking.{half-axis, half-slot, turn-to-half, side-axis, side-slot, turn-to-back, turn-over}
-use Rattle.radiusvisit.specs.Work.{Work, workOf}
+use Rattle.steps.proofs.Waits.{view, taken, pop_takes, some_taken}
+use Rattle.steps.proofs.Reading.{keeps, ordered_both, leaves_read}
+use Rattle.steps.proofs.Going.{Going, start, at_hand, none_at_hand, room}
+use Rattle.steps.proofs.Halves.{put_lowered}
+use Rattle.steps.proofs.Visiting.{good_here, splits_here, axis_small, slot_small, turn_to_near, turn_to_both}
+use Rattle.steps.proofs.Taking.{half_axis, half_slot, turn_to_half, side_axis, side_slot, turn_to_back, turn_over}
+use Rattle.radiusvisit.specs.Work.{Work, work_of}
 use Rattle.traversal.specs.Walked.{walked}
-use Rattle.traversal.proofs.Through.{tally-none, tally-examined}
-use Rattle.traversal.proofs.Lengths.{Alike, alike-rooms}
-use Rattle.traversal.proofs.Radius.{begins, radiusWalk}
-use Rattle.traversal.proofs.Bounded.{few-examined, unvisited}
-use Rattle.traversal.proofs.Turning.{ends_with, splits-with, turn-finish}
+use Rattle.traversal.proofs.Through.{tally_none, tally_examined}
+use Rattle.traversal.proofs.Lengths.{Alike, alike_rooms}
+use Rattle.traversal.proofs.Radius.{begins, radius_walk}
+use Rattle.traversal.proofs.Bounded.{few_examined, unvisited}
+use Rattle.traversal.proofs.Turning.{ends_with, splits_with, turn_finish}
 use Rattle.traversal.proofs.walk.Statement.{statement}
 use Rattle.traversal.proofs.walk.Tie as tie
 
@@ -39,15 +39,15 @@ idle false = 1
 
 abbrev invariant-loop : tie.invariant-loop
 invariant-loop k radius under counting lstarts lstems litems lcoords rstarts rstems ritems rcoords lout₀ rout₀ dout₀ at₀ b₀ t₀ stack₀ len₀ here₀ lout rout dout at b t stack len here =
-    let j : Trees = treesOf k lstarts lstems litems lcoords rstarts rstems ritems rcoords in
+    let j : Trees = trees_of k lstarts lstems litems lcoords rstarts rstems ritems rcoords in
     Accepts j
     × SameRooms lout₀ rout₀ dout₀
     × Alike (rooms_of lout₀ rout₀ dout₀) (rooms_of lout rout dout)
-    × Going (radiusWalk j (edge_of under) radius counting) (walked j (edge_of under) radius counting (rooms_of lout₀ rout₀ dout₀)) at (boxesOf b.min b.max) (workOf t lout rout dout) stack len here
+    × Going (radius_walk j (edge_of under) radius counting) (walked j (edge_of under) radius counting (rooms_of lout₀ rout₀ dout₀)) at (boxes_of b.min b.max) (work_of t lout rout dout) stack len here
 
 abbrev decreases-loop : tie.decreases-loop
 decreases-loop k radius under counting lstarts lstems litems lcoords rstarts rstems ritems rcoords lout₀ rout₀ dout₀ at₀ b₀ t₀ stack₀ len₀ here₀ lout rout dout at b t stack len here =
-    3 * ((walkTotals (treesOf k lstarts lstems litems lcoords rstarts rstems ritems rcoords) (edge_of under) radius counting).visits - t.totals.visits) + len + idle here
+    3 * ((walk_totals (trees_of k lstarts lstems litems lcoords rstarts rstems ritems rcoords) (edge_of under) radius counting).visits - t.totals.visits) + len + idle here
 
 -- ---- the way up from each place to where its turn began: all that a change of the code moves
 
@@ -80,8 +80,8 @@ entered3 c = c.before.before.before
 
 roots-requires : tie.Need-roots-requires invariant-loop decreases-loop
 roots-requires c κs = let s = c.before.before.before.before.before.before.before.before.before.before.before in
-    let l = keeps _ s.requires.0 leftSide rule₂ in
-    let r = keeps _ s.requires.0 rightSide rule₂ in
+    let l = keeps _ s.requires.0 left_side rule₂ in
+    let r = keeps _ s.requires.0 right_side rule₂ in
     (l.0, l.1, r.0, r.1)
 
 everywhere-requires : tie.Need-everywhere-requires invariant-loop decreases-loop
@@ -92,15 +92,15 @@ none-requires c κs = tt
 
 loop-holds : tie.Need-loop-init invariant-loop decreases-loop
 loop-holds c = let s = c.before.before.before.before.before.before.before.before.before.before.before.before.before.before in
-    (s.requires.0, s.requires.1, record { same-lefts = refl; same-rights = refl; same-distances = refl }, start _ s.requires.0 _ _ refl c.before.before.roots.ensures.0 c.before.before.roots.ensures.1 c.before.everywhere.ensures (begins _ _ _ _ (tally-none _ _ c.none.ensures)))
+    (s.requires.0, s.requires.1, record { same_lefts = refl; same_rights = refl; same_distances = refl }, start _ s.requires.0 _ _ refl c.before.before.roots.ensures.0 c.before.before.roots.ensures.1 c.before.everywhere.ensures (begins _ _ _ _ (tally_none _ _ c.none.ensures)))
 
 visited-requires : tie.Need-visited-requires invariant-loop decreases-loop
-visited-requires c κs = let i = c.before.loop.invariant in omega (arith, unvisited _ _ _ _ _ i.0 (at-hand c.if1.true i.3))
+visited-requires c κs = let i = c.before.loop.invariant in omega (arith, unvisited _ _ _ _ _ i.0 (at_hand c.if1.true i.3))
 
 choose-requires : tie.Need-choose-requires invariant-loop decreases-loop
 choose-requires c κs = let v = seen c.before.before.before in
     let i = v.before.loop.inv in
-    ((keeps _ i.0 leftSide rule₁).1, ordered-both _ i.0 _ (good-here i.0 (at-hand v.if1.taken i.3)).node)
+    ((keeps _ i.0 left_side rule₁).1, ordered_both _ i.0 _ (good_here i.0 (at_hand v.if1.taken i.3)).node)
 
 enum-known-m : tie.Need-enum-known-m invariant-loop decreases-loop
 enum-known-m c = search rules
@@ -110,8 +110,8 @@ finish-requires c κs = let m = c.before.before.before.before in
     let h = m.before.before in
     let v = seen (chose h) in
     let i = v.before.loop.inv in
-    let g = at-hand v.if1.taken i.3 in
-    (leaves-read _ i.0 _ (good-here i.0 g).node, (few-examined _ _ _ _ _ i.0 g _ _ refl refl (chose h).visited.ensures, (alike-rooms i.1 i.2, (ends_with _ _ _ _ _ i.0 g m.m.given.1 h.choose.ensures).allowed)))
+    let g = at_hand v.if1.taken i.3 in
+    (leaves_read _ i.0 _ (good_here i.0 g).node, (few_examined _ _ _ _ _ i.0 g _ _ refl refl (chose h).visited.ensures, (alike_rooms i.1 i.2, (ends_with _ _ _ _ _ i.0 g m.m.given.1 h.choose.ensures).allowed)))
 
 loop-less : tie.Need-loop-smaller invariant-loop decreases-loop
 loop-less c = let f = c.before.before.before.before.before.before in
@@ -119,7 +119,7 @@ loop-less c = let f = c.before.before.before.before.before.before in
     let h = m.before.before in
     let v = seen (chose h) in
     let i = v.before.loop.inv in
-    let g = at-hand v.if1.taken i.3 in
+    let g = at_hand v.if1.taken i.3 in
     simp v.if1.taken (omega (arith, unvisited _ _ _ _ _ i.0 g, ap (λ (w : Work). w.totals.visits) f.finish.ensures, ap (λ (t : Totals). t.visits) (chose h).visited.ensures.1))
 
 loop-again : tie.Need-loop-preserved invariant-loop decreases-loop
@@ -128,8 +128,8 @@ loop-again c = let f = c.before.before.before.before.before.before in
     let h = m.before.before in
     let v = seen (chose h) in
     let i = v.before.loop.inv in
-    let g = at-hand v.if1.taken i.3 in
-    let r = turn-finish _ _ _ _ _ i.0 g _ m.m.given.1 h.choose.ensures (tally-examined _ _ _ _ _ (chose h).visited.ensures) f.finish.ensures i.2 in
+    let g = at_hand v.if1.taken i.3 in
+    let r = turn_finish _ _ _ _ _ i.0 g _ m.m.given.1 h.choose.ensures (tally_examined _ _ _ _ _ (chose h).visited.ensures) f.finish.ensures i.2 in
     (i.0, i.1, r.0, r.1)
 
 enum-known-m-2 : tie.Need-enum-known-m-2 invariant-loop decreases-loop
@@ -140,8 +140,8 @@ descend-requires c κs = let m = c.before in
     let h = m.before.before in
     let v = seen (chose h) in
     let i = v.before.loop.inv in
-    let g = at-hand v.if1.taken i.3 in
-    splits-here i.0 g (splits-with _ _ _ _ _ i.0 g m.m2.given.1 h.choose.ensures)
+    let g = at_hand v.if1.taken i.3 in
+    splits_here i.0 g (splits_with _ _ _ _ _ i.0 g m.m2.given.1 h.choose.ensures)
 
 is-top-requires : tie.Need-is-top-requires invariant-loop decreases-loop
 is-top-requires c κs = tt
@@ -154,8 +154,8 @@ small-axis c =
     let h = m.before.before in
     let v = seen (chose h) in
     let i = v.before.loop.inv in
-    let g = at-hand v.if1.taken i.3 in
-    axis-small i.0 g _ (splits-with _ _ _ _ _ i.0 g m.m2.given.1 h.choose.ensures) _ d.descend.ensures
+    let g = at_hand v.if1.taken i.3 in
+    axis_small i.0 g _ (splits_with _ _ _ _ _ i.0 g m.m2.given.1 h.choose.ensures) _ d.descend.ensures
 
 small_slot : (c : tie.After-slot invariant-loop decreases-loop) → c.slot.result < 8
 small_slot c =
@@ -164,8 +164,8 @@ small_slot c =
     let h = m.before.before in
     let v = seen (chose h) in
     let i = v.before.loop.inv in
-    let g = at-hand v.if1.taken i.3 in
-    slot_small i.0 g _ (splits-with _ _ _ _ _ i.0 g m.m2.given.1 h.choose.ensures) _ d.descend.ensures c.slot.ensures
+    let g = at_hand v.if1.taken i.3 in
+    slot_small i.0 g _ (splits_with _ _ _ _ _ i.0 g m.m2.given.1 h.choose.ensures) _ d.descend.ensures c.slot.ensures
 
 slot-requires : tie.Need-slot-requires invariant-loop decreases-loop
 slot-requires c κs = small-axis c
@@ -210,7 +210,7 @@ loop-less-2 : tie.Need-loop-smaller-2 invariant-loop decreases-loop
 loop-less-2 c = let h = (splitting (halved c.before.before.before.before.before)).before.before in
     let v = seen (chose h) in
     let i = v.before.loop.inv in
-    simp v.if1.taken (omega (arith, unvisited _ _ _ _ _ i.0 (at-hand v.if1.taken i.3), ap (λ (t : Totals). t.visits) (chose h).visited.ensures.1))
+    simp v.if1.taken (omega (arith, unvisited _ _ _ _ _ i.0 (at_hand v.if1.taken i.3), ap (λ (t : Totals). t.visits) (chose h).visited.ensures.1))
 
 loop-again-2 : tie.Need-loop-preserved-2 invariant-loop decreases-loop
 loop-again-2 c = let n = c.before.before.before in
@@ -219,14 +219,14 @@ loop-again-2 c = let n = c.before.before.before in
     let h = m.before.before in
     let v = seen (chose h) in
     let i = v.before.loop.inv in
-    let g = at-hand v.if1.taken i.3 in
-    (i.0, i.1, i.2, turn-to-both i.0 g _ (splits-with _ _ _ _ _ i.0 g m.m2.given.1 h.choose.ensures) _ d.descend.ensures (tally-examined _ _ _ _ _ (chose h).visited.ensures) v.if1.taken n.slot.ensures (put-lowered (boxesOf v.before.loop.b.min v.before.loop.b.max) n.slot.result _ c.lowered.ensures) (refused n.before.before.is-top.ensures n.before.if2.true))
+    let g = at_hand v.if1.taken i.3 in
+    (i.0, i.1, i.2, turn_to_both i.0 g _ (splits_with _ _ _ _ _ i.0 g m.m2.given.1 h.choose.ensures) _ d.descend.ensures (tally_examined _ _ _ _ _ (chose h).visited.ensures) v.if1.taken n.slot.ensures (put_lowered (boxes_of v.before.loop.b.min v.before.loop.b.max) n.slot.result _ c.lowered.ensures) (refused n.before.before.is-top.ensures n.before.if2.true))
 
 loop-less-3 : tie.Need-loop-smaller-3 invariant-loop decreases-loop
 loop-less-3 c = let h = (splitting (halved c.before)).before.before in
     let v = seen (chose h) in
     let i = v.before.loop.inv in
-    simp v.if1.taken (omega (arith, unvisited _ _ _ _ _ i.0 (at-hand v.if1.taken i.3), ap (λ (t : Totals). t.visits) (chose h).visited.ensures.1))
+    simp v.if1.taken (omega (arith, unvisited _ _ _ _ _ i.0 (at_hand v.if1.taken i.3), ap (λ (t : Totals). t.visits) (chose h).visited.ensures.1))
 
 loop-again-3 : tie.Need-loop-preserved-3 invariant-loop decreases-loop
 loop-again-3 c = let d = halved c.before in
@@ -234,8 +234,8 @@ loop-again-3 c = let d = halved c.before in
     let h = m.before.before in
     let v = seen (chose h) in
     let i = v.before.loop.inv in
-    let g = at-hand v.if1.taken i.3 in
-    (i.0, i.1, i.2, turn-to-near i.0 g _ (splits-with _ _ _ _ _ i.0 g m.m2.given.1 h.choose.ensures) _ d.descend.ensures (tally-examined _ _ _ _ _ (chose h).visited.ensures) v.if1.taken (granted c.before.is-top.ensures c.if2.false))
+    let g = at_hand v.if1.taken i.3 in
+    (i.0, i.1, i.2, turn_to_near i.0 g _ (splits_with _ _ _ _ _ i.0 g m.m2.given.1 h.choose.ensures) _ d.descend.ensures (tally_examined _ _ _ _ _ (chose h).visited.ensures) v.if1.taken (granted c.before.is-top.ensures c.if2.false))
 
 top-of-requires : tie.Need-top-of-requires invariant-loop decreases-loop
 top-of-requires c κs = tt
@@ -251,7 +251,7 @@ pop-requires c κs = tt
 
 -- what the pop answers is what waits last
 answered : (p : tie.After-pop invariant-loop decreases-loop) → taken (view (idling p).before.loop.len (idling p).before.loop.stack) ≡ p.pop.result
-answered p = pop-takes _ p.before.before.top_of.result _ _ p.before.before.top_of.ensures p.pop.ensures
+answered p = pop_takes _ p.before.before.top_of.result _ _ p.before.before.top_of.ensures p.pop.ensures
 
 enum-known-w : tie.Need-enum-known-w invariant-loop decreases-loop
 enum-known-w c = search rules
@@ -260,21 +260,21 @@ enum_told : tie.Need-enum-told invariant-loop decreases-loop
 enum_told c = search rules
 
 same_length : tie.Need-same-length invariant-loop decreases-loop
-same_length c = (idling c.before.before).before.loop.inv.2.same-lefts
+same_length c = (idling c.before.before).before.loop.inv.2.same_lefts
 
 same-length-2 : tie.Need-same-length-2 invariant-loop decreases-loop
-same-length-2 c = (idling c.before.before).before.loop.inv.2.same-rights
+same-length-2 c = (idling c.before.before).before.loop.inv.2.same_rights
 
 same-length-3 : tie.Need-same-length-3 invariant-loop decreases-loop
-same-length-3 c = (idling c.before.before).before.loop.inv.2.same-distances
+same-length-3 c = (idling c.before.before).before.loop.inv.2.same_distances
 
 returns : tie.Need-returns invariant-loop decreases-loop
 returns c = let p = c.before.before in
     let i = (idling p).before.loop.invariant in
-    turn-over i.0 (none-at-hand (idling p).if1.false i.3) (answered p ∙ c.enum_told.given.1)
+    turn_over i.0 (none_at_hand (idling p).if1.false i.3) (answered p ∙ c.enum_told.given.1)
 
 some-waited : (c : tie.After-w invariant-loop decreases-loop) → 0 < (idling (taking c)).before.loop.len
-some-waited c = let l = (idling (taking c)).before.loop in (some-taken l.len l.stack (answered (taking c) ∙ c.w.given.1)).0
+some-waited c = let l = (idling (taking c)).before.loop in (some_taken l.len l.stack (answered (taking c) ∙ c.w.given.1)).0
 
 sub-len : tie.Need-overflow-sub-len invariant-loop decreases-loop
 sub-len c = omega (arith, some-waited c.before)
@@ -286,9 +286,9 @@ slot-requires-2 : tie.Need-slot-requires-2 invariant-loop decreases-loop
 slot-requires-2 c κs = let w = c.before in
     let p = taking (entered w) in
     let i = (idling p).before.loop.inv in
-    let g = none-at-hand (idling p).if1.left i.3 in
+    let g = none_at_hand (idling p).if1.left i.3 in
     let e = answered p ∙ (entered w).w.given.1 ∙ ap Entry w.w2.given.1 in
-    half-axis i.0 g _ _ _ _ _ _ e
+    half_axis i.0 g _ _ _ _ _ _ e
 
 raised-requires : tie.Need-raised-requires invariant-loop decreases-loop
 raised-requires c κs = tt
@@ -298,9 +298,9 @@ far-slot c =
     let w = c.before.before in
     let p = taking (entered w) in
     let i = (idling p).before.loop.inv in
-    let g = none-at-hand (idling p).if1.left i.3 in
+    let g = none_at_hand (idling p).if1.left i.3 in
     let e = answered p ∙ (entered w).w.given.1 ∙ ap Entry w.w2.given.1 in
-    half-slot i.0 g _ _ _ _ _ _ e c.slot2.ensures
+    half_slot i.0 g _ _ _ _ _ _ e c.slot2.ensures
 
 mul-b-2 : tie.Need-overflow-mul-b-2 invariant-loop decreases-loop
 mul-b-2 c = omega (arith, far-slot c.before)
@@ -333,9 +333,9 @@ loop-again-4 : tie.Need-loop-preserved-4 invariant-loop decreases-loop
 loop-again-4 c = let w = c.before.before.before in
     let p = taking (entered w) in
     let i = (idling p).before.loop.inv in
-    let g = none-at-hand (idling p).if1.left i.3 in
+    let g = none_at_hand (idling p).if1.left i.3 in
     let e = answered p ∙ (entered w).w.given.1 ∙ ap Entry w.w2.given.1 in
-    (i.0, i.1, i.2, turn-to-half i.0 g _ _ _ _ _ _ e c.before.slot2.ensures c.raised.ensures refl (search rules))
+    (i.0, i.1, i.2, turn_to_half i.0 g _ _ _ _ _ _ e c.before.slot2.ensures c.raised.ensures refl (search rules))
 
 enum-known-w-3 : tie.Need-enum-known-w-3 invariant-loop decreases-loop
 enum-known-w-3 c = search rules
@@ -344,18 +344,18 @@ slot-requires-3 : tie.Need-slot-requires-3 invariant-loop decreases-loop
 slot-requires-3 c κs = let w = c.before in
     let p = taking (entered3 w) in
     let i = (idling p).before.loop.inv in
-    let g = none-at-hand (idling p).if1.left i.3 in
+    let g = none_at_hand (idling p).if1.left i.3 in
     let e = answered p ∙ (entered3 w).w.given.1 ∙ ap Entry w.w3.given.1 in
-    side-axis i.0 g _ _ _ _ e
+    side_axis i.0 g _ _ _ _ e
 
 back-slot : (c : tie.After-slot3 invariant-loop decreases-loop) → c.slot3.result < 8
 back-slot c =
     let w = c.before.before in
     let p = taking (entered3 w) in
     let i = (idling p).before.loop.inv in
-    let g = none-at-hand (idling p).if1.left i.3 in
+    let g = none_at_hand (idling p).if1.left i.3 in
     let e = answered p ∙ (entered3 w).w.given.1 ∙ ap Entry w.w3.given.1 in
-    side-slot i.0 g _ _ _ _ e c.slot3.ensures
+    side_slot i.0 g _ _ _ _ e c.slot3.ensures
 
 mul-b-4 : tie.Need-overflow-mul-b-4 invariant-loop decreases-loop
 mul-b-4 c = omega (arith, back-slot c)
@@ -376,9 +376,9 @@ loop-again-5 : tie.Need-loop-preserved-5 invariant-loop decreases-loop
 loop-again-5 c = let w = c.before.before in
     let p = taking (entered3 w) in
     let i = (idling p).before.loop.inv in
-    let g = none-at-hand (idling p).if1.left i.3 in
+    let g = none_at_hand (idling p).if1.left i.3 in
     let e = answered p ∙ (entered3 w).w.given.1 ∙ ap Entry w.w3.given.1 in
-    (i.0, i.1, i.2, turn-to-back i.0 g _ _ _ _ e c.slot3.ensures (idling p).if1.left)
+    (i.0, i.1, i.2, turn_to_back i.0 g _ _ _ _ e c.slot3.ensures (idling p).if1.left)
 
 pub walk-spec : {M : Type 1} → statement M
 walk-spec =

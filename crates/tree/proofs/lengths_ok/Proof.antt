@@ -6,7 +6,7 @@ use native.Mathlib.Omega.{arith}
 use borrow.Author.Rules.{rules}
 use borrow.Author.Tests.{eq-eqb, ne_eqb}
 use lib.ListN.{length}
-use Rattle.written.specs.LentTree.{stemCount}
+use Rattle.written.specs.LentTree.{stem_count}
 use Rattle.tree.proofs.lengths_ok.Statement.{statement}
 use Rattle.tree.proofs.lengths_ok.Tie as tie
 
@@ -22,7 +22,7 @@ stem-count-requires c κs = search rules
 returns : tie.Need-returns
 returns c =
     let a = c.before.before.before.before.before.before.args in
-    rw (ne_eqb (length a.stems.now) (stemCount (length a.starts.now - 1)) (λ e. c.if1.true (e ∙ sym c.before.stem-count.ensures)))
+    rw (ne_eqb (length a.stems.now) (stem_count (length a.starts.now - 1)) (λ e. c.if1.true (e ∙ sym c.before.stem-count.ensures)))
 
 mul-result : tie.Need-overflow-mul-result
 mul-result c =
@@ -34,7 +34,7 @@ mul-result c =
 returns-2 : tie.Need-returns-2
 returns-2 c =
     let a = c.before.before.before.before.before.before.args in
-    rw (eq-eqb (length a.stems.now) (stemCount (length a.starts.now - 1)) (c.if1.false ∙ c.before.stem-count.ensures))
+    rw (eq-eqb (length a.stems.now) (stem_count (length a.starts.now - 1)) (c.if1.false ∙ c.before.stem-count.ensures))
 
 pub lengths-ok-spec : {M : Type 1} → statement M
 lengths-ok-spec =

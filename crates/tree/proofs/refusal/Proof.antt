@@ -3,9 +3,9 @@ use mathlib.Core.Path.{◌≡◌, sym, ap, ◌∙◌, subst}
 use mathlib.Core.Bool.{true}
 use native.Mathlib.Omega.{arith}
 use borrow.Author.Rules.{rules}
-use Rattle.written.specs.LentTree.{Tree, root, the-root}
-use Rattle.written.specs.Check.{Rule, rule₁, rule₂, rule₃, rule₄, rule₅, rule₆, rule₇, keeps, pivotOk, refusal}
-use Rattle.written.specs.Checked.{rule-means}
+use Rattle.written.specs.LentTree.{Tree, root, the_root}
+use Rattle.written.specs.Check.{Rule, rule₁, rule₂, rule₃, rule₄, rule₅, rule₆, rule₇, keeps, pivot_ok, refusal}
+use Rattle.written.specs.Checked.{rule_means}
 use Rattle.cursor.specs.Held.{node_of}
 use Rattle.tree.specs.Lent.{tree_of, Sized, Stands, order_at}
 use Rattle.tree.proofs.Descent.{under}
@@ -62,17 +62,17 @@ kept₅ c = granted c.before.coords-ok.ensures c.if5.false
 
 sized : (c : tie.Else2) → Sized (from₂ c).args.k (tree-of (from₂ c))
 sized c =
-    let means = rule-means (from₂ c).args.k (tree-of (from₂ c)) in
+    let means = rule_means (from₂ c).args.k (tree-of (from₂ c)) in
     record { axes = (means rule₁).0 (kept₁ (up₂ c)); sizes = (means rule₂).0 (kept₂ c) }
 
 root_stands : (c : tie.Else5) → Stands (from₅ c).args.k (tree-of (from₅ c)) (root (tree-of (from₅ c)))
 root_stands c =
-    let means = rule-means (from₅ c).args.k (tree-of (from₅ c)) in
+    let means = rule_means (from₅ c).args.k (tree-of (from₅ c)) in
     record {
       sized = sized (up₃ (up₄ (up₅ c)));
       lengths = (means rule₃).0 (kept₃ (up₄ (up₅ c)));
-      starts-kept = (means rule₄).0 (kept₄ (up₅ c));
-      node = the-root;
+      starts_kept = (means rule₄).0 (kept₄ (up₅ c));
+      node = the_root;
     }
 
 -- ---- rules 1 to 5
@@ -136,7 +136,7 @@ pivots-ok-requires c κs = given-stands c
 told₆ : (c : tie.After-pivots-ok) → c.pivots-ok.result ≡ keeps (from₅ c.before.before).args.k (tree-of (from₅ c.before.before)) rule₆
 told₆ c =
     let s = from₅ c.before.before in
-    c.pivots-ok.ensures ∙ ap (under (pivotOk s.args.k (tree-of s))) c.before.root.ensures
+    c.pivots-ok.ensures ∙ ap (under (pivot_ok s.args.k (tree-of s))) c.before.root.ensures
 
 kept₆ : (c : tie.Else6) → Passes rule₆ (from₅ (up₆ c))
 kept₆ c = granted (told₆ c.before) c.if6.false
@@ -150,10 +150,10 @@ returns-6 c =
 order-ok-requires : tie.Need-order-ok-requires
 order-ok-requires c κs = given-stands c.before.before
 
-told₇ : (c : tie.After-order-ok) → c.order-ok.result ≡ keeps (from₅ (up₆ c.before)).args.k (tree-of (from₅ (up₆ c.before))) rule₇
+told₇ : (c : tie.After-order-ok) → c.order_ok.result ≡ keeps (from₅ (up₆ c.before)).args.k (tree-of (from₅ (up₆ c.before))) rule₇
 told₇ c =
     let s = from₅ (up₆ c.before) in
-    c.order-ok.ensures ∙ ap (under (order_at s.args.k (tree-of s))) c.before.before.before.root.ensures
+    c.order_ok.ensures ∙ ap (under (order_at s.args.k (tree-of s))) c.before.before.before.root.ensures
 
 returns-7 : tie.Need-returns-7
 unfolding refusal

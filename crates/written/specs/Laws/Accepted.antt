@@ -7,18 +7,18 @@ use Rattle.std.proofs.Math.Dec.{not_T}
 use Rattle.std.specs.Float.{nan, inf, fin}
 use Rattle.std.specs.Float.Ieee.{lt, is_nan}
 use Rattle.std.specs.Float.Ieee.Scale.{finite}
-use Rattle.rounding.specs.Order.{known, finite-known, not-lt→le}
+use Rattle.rounding.specs.Order.{known, finite_known, not_lt→le}
 use Rattle.written.specs.Places.{In}
 use Rattle.written.specs.LentTree.{Tree, leaves, places, start, coord, Cursor, span, far, Node, axis, pivot, part}
 use Rattle.written.specs.Check.{Rule, rule₁, rule₃, rule₄, rule₅, rule₆, rule₇, refusal}
 use Rattle.written.specs.Boxes.{Trees}
-use Rattle.written.specs.NodePairs.{Side, leftSide, rightSide, tree_of}
+use Rattle.written.specs.NodePairs.{Side, left_side, right_side, tree_of}
 use Rattle.written.specs.Answers.{Accepts}
 use Rattle.written.specs.Rules.{StartsKept, OrderKept, Kept}
-use Rattle.written.specs.Checked.{accepted-means}
-use Rattle.written.specs.Laws.Check.{top-is}
-use Rattle.written.specs.Laws.Places.{in-first, in_then}
-use Rattle.written.specs.Laws.LentTree.{Laid, On, on-node, part-halves, part_in}
+use Rattle.written.specs.Checked.{accepted_means}
+use Rattle.written.specs.Laws.Check.{top_is}
+use Rattle.written.specs.Laws.Places.{in_first, in_then}
+use Rattle.written.specs.Laws.LentTree.{Laid, On, on_node, part_halves, part_in}
 use Rattle.written.specs.Laws.RadiusWalk.{Parted, Accepted}
 
 rising : (f : ℕ → ℕ) (m : ℕ) → ((i : ℕ) → i < m → f i ≤ f (suc i)) → (k i : ℕ) → i ≤ k → k ≤ m → f i ≤ f k
@@ -32,8 +32,8 @@ rising f m h (suc k) i x y = go (rising f m h k i) (ℕ_discrete i (suc k))
     go g (no n) = omega (arith, g (omega arith) (omega arith), h k (omega arith))
 
 -- rule 4, as the walks use it: starts rise over any number of leaves
-pub starts-laid : (t : Tree) → StartsKept t → Laid t
-starts-laid t s = record { begins = s.first-zero; rises = λ i k. rising (start t) (leaves t) s.none-falls k i; finishes = s.last-n }
+pub starts_laid : (t : Tree) → StartsKept t → Laid t
+starts_laid t s = record { begins = s.first_zero; rises = λ i k. rising (start t) (leaves t) s.none_falls k i; finishes = s.last_n }
 
 known_of : (x : Float) → x ≢ nan → T (known x)
 unfolding is_nan
@@ -43,7 +43,7 @@ known_of (fin s m e) h = tt
 
 module _ (K : ℕ) (t : Tree) (kept : (r : Rule) → Kept K t r) where
   laid : Laid t
-  laid = starts-laid t (kept rule₄)
+  laid = starts_laid t (kept rule₄)
 
   finites : (d p : ℕ) → d < K → p < places t → T (finite (coord t d p))
   finites d p x y = kept rule₅ (d * places t + p) (omega (arith, (kept rule₃).2, digits_lt x y))
@@ -56,15 +56,15 @@ module _ (K : ℕ) (t : Tree) (kept : (r : Rule) → Kept K t r) where
         go : Dec (c.first < c.end) → 0 < span c
         go (yes l) = omega arith
         go (no l) =
-            let o : On t c = on-node n in
+            let o : On t c = on_node n in
             let e : c.first ≡ c.end = omega arith in
             absurd (omega (arith, ap (start t) e, i))
 
-    pivot-known : (p : ℕ) → In p (part t c) → T (known (pivot t c))
-    pivot-known p i = known_of (pivot t c) (kept rule₆ c n h (spans p i)).0
+    pivot_known : (p : ℕ) → In p (part t c) → T (known (pivot t c))
+    pivot_known p i = known_of (pivot t c) (kept rule₆ c n h (spans p i)).0
 
-    coord-known : (p : ℕ) → In p (part t c) → T (known (coord t (axis K c) p))
-    coord-known p i = finite-known (coord t (axis K c) p) (finites (axis K c) p (mod-lt _ (kept rule₁).0) (part_in t c laid n i))
+    coord_known : (p : ℕ) → In p (part t c) → T (known (coord t (axis K c) p))
+    coord_known p i = finite_known (coord t (axis K c) p) (finites (axis K c) p (mod-lt _ (kept rule₁).0) (part_in t c laid n i))
 
     no_size : (k : ℕ) → ((p : ℕ) → p < k → ⊥) → k ≡ 0
     no_size zero f = refl
@@ -73,18 +73,18 @@ module _ (K : ℕ) (t : Tree) (kept : (r : Rule) → Kept K t r) where
     parted : Parted K t c
     parted =
         let o : OrderKept K t c = kept rule₇ c n h in
-        let w = part-halves t c laid n in
+        let w = part_halves t c laid n in
         record {
-          below = λ p i. let k = in-first w i in not-lt→le (pivot t c) (coord t (axis K c) p) (pivot-known p k) (coord-known p k) (not_T (lt (pivot t c) (coord t (axis K c) p)) (o.left-half p i));
-          above = λ p i. let k = in_then w i in not-lt→le (coord t (axis K c) p) (pivot t c) (coord-known p k) (pivot-known p k) (not_T (lt (coord t (axis K c) p) (pivot t c)) (o.right-half p i));
-          shut = λ e. no_size (part t (far c)).size (λ p k. o.under_top ((top-is (pivot t c)).0 e) ((part t (far c)).from + p) (record { above = omega arith; below = omega arith }));
+          below = λ p i. let k = in_first w i in not_lt→le (pivot t c) (coord t (axis K c) p) (pivot_known p k) (coord_known p k) (not_T (lt (pivot t c) (coord t (axis K c) p)) (o.left_half p i));
+          above = λ p i. let k = in_then w i in not_lt→le (coord t (axis K c) p) (pivot t c) (coord_known p k) (pivot_known p k) (not_T (lt (coord t (axis K c) p) (pivot t c)) (o.right_half p i));
+          shut = λ e. no_size (part t (far c)).size (λ p k. o.under_top ((top_is (pivot t c)).0 e) ((part t (far c)).from + p) (record { above = omega arith; below = omega arith }));
         }
 
 accepted : (K : ℕ) (t : Tree) → refusal K t ≡ 0 → Accepted K t
 accepted K t e =
-    let kept = (accepted-means K t).0 e in
-    record { some-axis = (kept rule₁).0; few-axes = (kept rule₁).1; laid = laid K t kept; finites = finites K t kept; parted = parted K t kept }
+    let kept = (accepted_means K t).0 e in
+    record { some_axis = (kept rule₁).0; few_axes = (kept rule₁).1; laid = laid K t kept; finites = finites K t kept; parted = parted K t kept }
 
-pub both-accepted : (j : Trees) → Accepts j → (x : Side) → Accepted j.axes (tree_of j x)
-both-accepted j ok leftSide = accepted j.axes j.left ok.0
-both-accepted j ok rightSide = accepted j.axes j.right ok.1
+pub both_accepted : (j : Trees) → Accepts j → (x : Side) → Accepted j.axes (tree_of j x)
+both_accepted j ok left_side = accepted j.axes j.left ok.0
+both_accepted j ok right_side = accepted j.axes j.right ok.1

@@ -7,29 +7,29 @@ use native.Mathlib.Omega.{arith}
 use Rattle.written.specs.Places.{Part, In}
 use Rattle.written.specs.Visits.{Fate, measured, ruled, whole, Step, ends, goes, forks, Seen, seen, after, carries, carry, Ends}
 use Rattle.written.specs.Laws.Visits.{at, height}
-use Rattle.written.specs.Laws.Covered.{Cut, cut_left, cut_right, cut_in, cut-first-in, cut-then-in, Tiled}
+use Rattle.written.specs.Laws.Covered.{Cut, cut_left, cut_right, cut_in, cut_first_in, cut_then_in, Tiled}
 use Rattle.written.specs.Laws.Walks.{Allows, Onward}
 
 module _ {C S : Type 0} (step : C → S → Step S) (act : C → S → C) where
-  pub at-carries : (d : ℕ) (c : C) (s : S) (x : Step S) → at (carries step act d c s x).0 ≡ seen c s
+  pub at_carries : (d : ℕ) (c : C) (s : S) (x : Step S) → at (carries step act d c s x).0 ≡ seen c s
   unfolding carries
-  at-carries zero c s (ends k) = refl
-  at-carries zero c s (goes t) = refl
-  at-carries zero c s (forks t u) = refl
-  at-carries (suc d) c s (ends k) = refl
-  at-carries (suc d) c s (goes t) = refl
-  at-carries (suc d) c s (forks t u) = refl
+  at_carries zero c s (ends k) = refl
+  at_carries zero c s (goes t) = refl
+  at_carries zero c s (forks t u) = refl
+  at_carries (suc d) c s (ends k) = refl
+  at_carries (suc d) c s (goes t) = refl
+  at_carries (suc d) c s (forks t u) = refl
 
-  pub height-carries : (d : ℕ) (c : C) (s : S) (x : Step S) → height (carries step act d c s x).0 ≤ d
+  pub height_carries : (d : ℕ) (c : C) (s : S) (x : Step S) → height (carries step act d c s x).0 ≤ d
   unfolding carries height
-  height-carries zero c s (ends k) = omega arith
-  height-carries zero c s (goes t) = omega arith
-  height-carries zero c s (forks t u) = omega arith
-  height-carries (suc d) c s (ends k) = omega arith
-  height-carries (suc d) c s (goes t) = omega (arith, height-carries d c t (step c t))
-  height-carries (suc d) c s (forks t u) =
+  height_carries zero c s (ends k) = omega arith
+  height_carries zero c s (goes t) = omega arith
+  height_carries zero c s (forks t u) = omega arith
+  height_carries (suc d) c s (ends k) = omega arith
+  height_carries (suc d) c s (goes t) = omega (arith, height_carries d c t (step c t))
+  height_carries (suc d) c s (forks t u) =
       let e = (carry step act d c u).1 in
-      omega (arith, height-carries d c u (step c u), height-carries d e t (step e t))
+      omega (arith, height_carries d c u (step c u), height_carries d e t (step e t))
 
   fates : (Q : Fate → Type 0) → Q measured → ((c : C) (s : S) → Allows Q (step c s)) → (d : ℕ) (c : C) (s : S) (x : Step S) → Allows Q x → Ends (λ s k. Q k) (carries step act d c s x).0
   unfolding carries
@@ -42,8 +42,8 @@ module _ {C S : Type 0} (step : C → S → Step S) (act : C → S → C) where
       let e = (carry step act d c u).1 in
       (fates Q m h d e t (step e t) (h e t), fates Q m h d c u (step c u) (h c u))
 
-  pub carry-fates : (Q : Fate → Type 0) → Q measured → ((c : C) (s : S) → Allows Q (step c s)) → (d : ℕ) (c : C) (s : S) → Ends (λ s k. Q k) (carry step act d c s).0
-  carry-fates Q m h d c s = fates Q m h d c s (step c s) (h c s)
+  pub carry_fates : (Q : Fate → Type 0) → Q measured → ((c : C) (s : S) → Allows Q (step c s)) → (d : ℕ) (c : C) (s : S) → Ends (λ s k. Q k) (carry step act d c s).0
+  carry_fates Q m h d c s = fates Q m h d c s (step c s) (h c s)
 
   -- An answer is read at a place, and its distance compared by a preorder. `made p q` is the answer that measuring p against q offers.
   module _ (left right : S → Part) {Y D : Type 0} (get : C → ℕ → Y) (dist : Y → D) (made : ℕ → ℕ → Y) (◌⊑◌ : D → D → Type 0) where
@@ -75,10 +75,10 @@ module _ {C S : Type 0} (step : C → S → Step S) (act : C → S → C) where
         pub held : Ends NoFarther (carry step act d c s).0
         pub settled : Settled c (carry step act d c s).1 s
 
-      pub carry-onward : (d : ℕ) (c : C) (s : S) (x : Step S) → Onward left right Good d s x → CarryLaw d c s x
-      carry-onward d c s (ends k) h = absurd h
-      carry-onward d c s (goes t) h = h
-      carry-onward d c s (forks t u) h = h
+      pub carry_onward : (d : ℕ) (c : C) (s : S) (x : Step S) → Onward left right Good d s x → CarryLaw d c s x
+      carry_onward d c s (ends k) h = absurd h
+      carry_onward d c s (goes t) h = h
+      carry_onward d c s (forks t u) h = h
 
       module _ (⊑_trans : (x y z : D) → x ⊑ y → y ⊑ z → x ⊑ z) (law : (d : ℕ) (c : C) (s : S) → Fine c → Good d s → CarryLaw d c s (step c s)) where
         abbrev end : ℕ → C → S → C
@@ -96,9 +96,9 @@ module _ {C S : Type 0} (step : C → S → Step S) (act : C → S → C) where
             let f : Fine e = fine d c u (step c u) i (law d c u i h.1) in
             fine d e t (step e t) f (law d e t f h.0)
 
-        cut-seen : (c e f : C) (s t u : S) → Cut left right s t u → Cut {S = Seen C S} (λ v. left v.pair) (λ v. right v.pair) (seen c s) (seen e t) (seen f u)
-        cut-seen c e f s t u (cut_left h a b) = cut_left h a b
-        cut-seen c e f s t u (cut_right h a b) = cut_right h a b
+        cut_seen : (c e f : C) (s t u : S) → Cut left right s t u → Cut {S = Seen C S} (λ v. left v.pair) (λ v. right v.pair) (seen c s) (seen e t) (seen f u)
+        cut_seen c e f s t u (cut_left h a b) = cut_left h a b
+        cut_seen c e f s t u (cut_right h a b) = cut_right h a b
 
         tiled : (d : ℕ) (c : C) (s : S) (x : Step S) → Fine c → CarryLaw d c s x → Tiled {S = Seen C S} (λ v. left v.pair) (λ v. right v.pair) (carries step act d c s x).0
         unfolding carries
@@ -106,12 +106,12 @@ module _ {C S : Type 0} (step : C → S → Step S) (act : C → S → C) where
         tiled zero c s (goes t) i h = tt
         tiled zero c s (forks t u) i h = tt
         tiled (suc d) c s (ends k) i h = tt
-        tiled (suc d) c s (goes t) i h = rw (at-carries d c t (step c t)) (h.1, h.2, tiled d c t (step c t) i (law d c t i h.0))
+        tiled (suc d) c s (goes t) i h = rw (at_carries d c t (step c t)) (h.1, h.2, tiled d c t (step c t) i (law d c t i h.0))
         tiled (suc d) c s (forks t u) i h =
             let e = end d c u in
             let l = law d c u i h.1 in
             let f = fine d c u (step c u) i l in
-            rw (at-carries d e t (step e t), at-carries d c u (step c u)) (cut-seen c e c s t u h.2, tiled d e t (step e t) f (law d e t f h.0), tiled d c u (step c u) i l)
+            rw (at_carries d e t (step e t), at_carries d c u (step c u)) (cut_seen c e c s t u h.2, tiled d e t (step e t) f (law d e t f h.0), tiled d c u (step c u) i l)
 
         held : (d : ℕ) (c : C) (s : S) (x : Step S) → Fine c → CarryLaw d c s x → Ends NoFarther (carries step act d c s x).0
         unfolding carries
@@ -130,8 +130,8 @@ module _ {C S : Type 0} (step : C → S → Step S) (act : C → S → C) where
             let f = fine d c u (step c u) i l in
             (held d e t (step e t) f (law d e t f h.0), held d c u (step c u) i l)
 
-        settled-fork : (c e g : C) (s t u : S) → Cut left right s t u → Settled c e u → Settled e g t → Settled c g s
-        settled-fork c e g s t u k x y =
+        settled_fork : (c e g : C) (s t u : S) → Cut left right s t u → Settled c e u → Settled e g t → Settled c g s
+        settled_fork c e g s t u k x y =
             record { low = λ p q a b. lower p q (cut_in left right k p q a b); down = λ p. ⊑_trans _ _ _ (y.down p) (x.down p); «from» = λ p. comes p (y.«from» p) (x.«from» p) }
           where
             lower : (p q : ℕ) → (In p (left t) × In q (right t)) ⊎ (In p (left u) × In q (right u)) → dist (get g p) ⊑ dist (made p q)
@@ -142,8 +142,8 @@ module _ {C S : Type 0} (step : C → S → Step S) (act : C → S → C) where
                 → (get e p ≡ get c p) ⊎ ((q : ℕ) × In q (right u) × (get e p ≡ made p q))
                 → (get g p ≡ get c p) ⊎ ((q : ℕ) × In q (right s) × (get g p ≡ made p q))
             comes p (inl v) (inl w) = inl (v ∙ w)
-            comes p (inl v) (inr w) = inr (w.0, cut-then-in left right k w.1, v ∙ w.2)
-            comes p (inr v) w = inr (v.0, cut-first-in left right k v.1, v.2)
+            comes p (inl v) (inr w) = inr (w.0, cut_then_in left right k w.1, v ∙ w.2)
+            comes p (inr v) w = inr (v.0, cut_first_in left right k v.1, v.2)
 
         settled_same : (c e : C) (s t : S) → left t ≡ left s → right t ≡ right s → Settled c e t → Settled c e s
         settled_same c e s t h k x =
@@ -160,7 +160,7 @@ module _ {C S : Type 0} (step : C → S → Step S) (act : C → S → C) where
             let e = end d c u in
             let l = law d c u i h.1 in
             let f = fine d c u (step c u) i l in
-            settled-fork c e (end d e t) s t u h.2 (settled d c u (step c u) i l) (settled d e t (step e t) f (law d e t f h.0))
+            settled_fork c e (end d e t) s t u h.2 (settled d c u (step c u) i l) (settled d e t (step e t) f (law d e t f h.0))
 
         pub carried : (d : ℕ) (c : C) (s : S) → Fine c → Good d s → Carried d c s
         carried d c s i g =

@@ -4,47 +4,47 @@ use Rattle.std.proofs.Common.{sym, ap, subst, arith}
 use Rattle.written.specs.LentTree.{Tree}
 use Rattle.written.specs.Check.{refusal}
 use Rattle.written.specs.Boxes.{Trees}
-use Rattle.written.specs.Answers.{checked, told, leftRefusal, rightRefusal, Accepts}
+use Rattle.written.specs.Answers.{checked, told, left_refusal, right_refusal, Accepts}
 use Rattle.written.specs.Rules.{FirstBroken}
-use Rattle.written.specs.Calls.{TreeRefused, left-broken, right-broken}
-use Rattle.written.specs.Checked.{refusal-is-first, first-is-one}
+use Rattle.written.specs.Calls.{TreeRefused, left_broken, right_broken}
+use Rattle.written.specs.Checked.{refusal_is_first, first_is_one}
 
 -- the computed number and the first rule broken are one
-is-first : (K : ℕ) (t : Tree) {n : ℕ} → FirstBroken K t n → refusal K t ≡ n
-is-first K t f = first-is-one K t (refusal-is-first K t) f
+is_first : (K : ℕ) (t : Tree) {n : ℕ} → FirstBroken K t n → refusal K t ≡ n
+is_first K t f = first_is_one K t (refusal_is_first K t) f
 
-first-at : (K : ℕ) (t : Tree) {n : ℕ} → refusal K t ≡ n → FirstBroken K t n
-first-at K t e = subst (FirstBroken K t) e (refusal-is-first K t)
+first_at : (K : ℕ) (t : Tree) {n : ℕ} → refusal K t ≡ n → FirstBroken K t n
+first_at K t e = subst (FirstBroken K t) e (refusal_is_first K t)
 
 module _ (j : Trees) {X : Type 0} (refuse : ℕ → ℕ → X) (goesOn : X) where
   abbrev begun : X
-  begun = checked refuse (leftRefusal j) (rightRefusal j) goesOn
+  begun = checked refuse (left_refusal j) (right_refusal j) goesOn
 
-  pub on-refused : {n s : ℕ} → TreeRefused j n s → begun ≡ refuse n s
-  on-refused (left-broken f) = rw (is-first j.axes j.left f) refl
-  on-refused (right-broken k f) = rw (is-first j.axes j.left k, is-first j.axes j.right f) refl
+  pub on_refused : {n s : ℕ} → TreeRefused j n s → begun ≡ refuse n s
+  on_refused (left_broken f) = rw (is_first j.axes j.left f) refl
+  on_refused (right_broken k f) = rw (is_first j.axes j.left k, is_first j.axes j.right f) refl
 
-  pub on-accepted : Accepts j → begun ≡ goesOn
-  on-accepted ok = rw (ok.0, ok.1) refl
+  pub on_accepted : Accepts j → begun ≡ goesOn
+  on_accepted ok = rw (ok.0, ok.1) refl
 
   -- so what holds in both cases holds of the call
-  pub by-trees : (P : X → Type 0) → ((n s : ℕ) → TreeRefused j n s → P (refuse n s)) → (Accepts j → P goesOn) → P begun
-  by-trees P of-refusal of-rest = go (leftRefusal j) refl (rightRefusal j) refl
+  pub by_trees : (P : X → Type 0) → ((n s : ℕ) → TreeRefused j n s → P (refuse n s)) → (Accepts j → P goesOn) → P begun
+  by_trees P of_refusal of-rest = go (left_refusal j) refl (right_refusal j) refl
     where
-      go : (l : ℕ) → leftRefusal j ≡ l → (r : ℕ) → rightRefusal j ≡ r → P (checked refuse l r goesOn)
+      go : (l : ℕ) → left_refusal j ≡ l → (r : ℕ) → right_refusal j ≡ r → P (checked refuse l r goesOn)
       go zero e zero f = of-rest (e, f)
-      go zero e (suc n) f = of-refusal (suc n) 1 (right-broken (first-at j.axes j.left e) (first-at j.axes j.right f))
-      go (suc n) e r f = of-refusal (suc n) 0 (left-broken (first-at j.axes j.left e))
+      go zero e (suc n) f = of_refusal (suc n) 1 (right_broken (first_at j.axes j.left e) (first_at j.axes j.right f))
+      go (suc n) e r f = of_refusal (suc n) 0 (left_broken (first_at j.axes j.left e))
 
 -- ---- by the two sides' numbers alone, whatever check gave them
 
 abbrev number : ℕ × ℕ → ℕ
 number x = x.0
 
-pub both-accepted : (left right : ℕ) {n s : ℕ} → (n, s) ≡ told left right → n ≡ 0 → (left ≡ 0) × (right ≡ 0)
-both-accepted zero zero e z = (refl, refl)
-both-accepted zero (suc m) e z = absurd (omega (arith, ap number e))
-both-accepted (suc m) right e z = absurd (omega (arith, ap number e))
+pub both_accepted : (left right : ℕ) {n s : ℕ} → (n, s) ≡ told left right → n ≡ 0 → (left ≡ 0) × (right ≡ 0)
+both_accepted zero zero e z = (refl, refl)
+both_accepted zero (suc m) e z = absurd (omega (arith, ap number e))
+both_accepted (suc m) right e z = absurd (omega (arith, ap number e))
 
 module _ {X : Type 0} (refuse : ℕ → ℕ → X) (goesOn : X) where
   pub checked_refused : (left right : ℕ) {n s : ℕ} → (n, s) ≡ told left right → 0 < n → checked refuse left right goesOn ≡ refuse n s

@@ -6,19 +6,19 @@ use Rattle.std.proofs.Math.Decide.{dec_lt}
 use Rattle.written.specs.LentTree.{places}
 use Rattle.written.specs.Boxes.{Trees}
 use Rattle.written.specs.RadiusWalk.{Found}
-use Rattle.written.specs.Nearest.{Neighbour, noPoints}
+use Rattle.written.specs.Nearest.{Neighbour, no_points}
 use Rattle.written.specs.Totals.{Totals, none}
-use Rattle.written.specs.Answers.{Answer, answered, refused, PairRooms, pairRoomsAgree, pairsGiven, NearRooms, nearRoomsAgree, nearRoomOk, nearestGiven}
-use Rattle.written.specs.Calls.{PairRoomsAgree, NearRoomsAgree, allStored, firstStored, answersStored, PairsGiven, pairs-rooms-differ, pairs-all-fit, pairs-some-fit}
-use Rattle.written.specs.Calls.{NearestGiven, nearest-rooms-differ, nearest-room-short, nearest-no-points, nearest-written}
-use Rattle.written.specs.Laws.Tests.{fails, not-both, both, at_most, exceeds, equal}
-use Rattle.written.specs.Laws.Rooms.{stored-all, stored-first}
+use Rattle.written.specs.Answers.{Answer, answered, refused, PairRooms, pair_rooms_agree, pairsGiven, NearRooms, near_rooms_agree, near_room_ok, nearestGiven}
+use Rattle.written.specs.Calls.{PairRoomsAgree, NearRoomsAgree, all_stored, first_stored, answers_stored, PairsGiven, pairs_rooms_differ, pairs_all_fit, pairs_some_fit}
+use Rattle.written.specs.Calls.{NearestGiven, nearest_rooms_differ, nearest_room_short, nearest_no_points, nearest_written}
+use Rattle.written.specs.Laws.Tests.{fails, not_both, both, at_most, exceeds, equal}
+use Rattle.written.specs.Laws.Rooms.{stored_all, stored_first}
 
 -- ---- pairs
 
 -- the test of rule 8 says that the rooms agree
-pub rooms-agree : (b : PairRooms) → (pairRoomsAgree b ≡ true) ↔ PairRoomsAgree b
-rooms-agree b =
+pub rooms_agree : (b : PairRooms) → (pair_rooms_agree b ≡ true) ↔ PairRoomsAgree b
+rooms_agree b =
     let e = equal (length b.lefts) (length b.rights) in
     let f = equal (length b.rights) (length b.distances) in
     let k = both (eqb (length b.lefts) (length b.rights)) (eqb (length b.rights) (length b.distances)) in
@@ -26,49 +26,49 @@ rooms-agree b =
 
 module _ (l : List Found) (totals : Totals) (b : PairRooms) where
   abbrev pairs : Answer × PairRooms
-  pairs = pairsGiven l totals b (pairRoomsAgree b)
+  pairs = pairsGiven l totals b (pair_rooms_agree b)
 
-  pairs-differ : (PairRoomsAgree b → ⊥) → pairs ≡ (refused 8 0, b)
-  pairs-differ n = rw (fails (pairRoomsAgree b) (λ e. n ((rooms-agree b).0 e))) refl
+  pairs_differ : (PairRoomsAgree b → ⊥) → pairs ≡ (refused 8 0, b)
+  pairs_differ n = rw (fails (pair_rooms_agree b) (λ e. n ((rooms_agree b).0 e))) refl
 
-  pairs-all : PairRoomsAgree b → length l ≤ length b.distances → pairs ≡ (answered 0 (length l) totals, allStored l b)
-  pairs-all a h =
+  pairs_all : PairRoomsAgree b → length l ≤ length b.distances → pairs ≡ (answered 0 (length l) totals, all_stored l b)
+  pairs_all a h =
       rw
-      ((rooms-agree b).1 a, (at_most (length l) (length b.distances)).1 h, stored-all (λ x. x.left) l b.lefts (omega arith), stored-all (λ x. x.right) l b.rights (omega arith), stored-all (λ x. x.distance) l b.distances h)
+      ((rooms_agree b).1 a, (at_most (length l) (length b.distances)).1 h, stored_all (λ x. x.left) l b.lefts (omega arith), stored_all (λ x. x.right) l b.rights (omega arith), stored_all (λ x. x.distance) l b.distances h)
       refl
 
-  pairs_first : PairRoomsAgree b → length b.distances < length l → pairs ≡ (answered 9 (length l) totals, firstStored l b)
+  pairs_first : PairRoomsAgree b → length b.distances < length l → pairs ≡ (answered 9 (length l) totals, first_stored l b)
   pairs_first a h =
       rw
-      ((rooms-agree b).1 a, exceeds (length l) (length b.distances) h, stored-first (λ x. x.left) l b.lefts (omega arith), stored-first (λ x. x.right) l b.rights (omega arith), stored-first (λ x. x.distance) l b.distances (omega arith))
+      ((rooms_agree b).1 a, exceeds (length l) (length b.distances) h, stored_first (λ x. x.left) l b.lefts (omega arith), stored_first (λ x. x.right) l b.rights (omega arith), stored_first (λ x. x.distance) l b.distances (omega arith))
       refl
 
-  pairs-only : {x : Answer × PairRooms} → PairsGiven l totals b x → x ≡ pairs
-  pairs-only (pairs-rooms-differ n) = sym (pairs-differ n)
-  pairs-only (pairs-all-fit a h) = sym (pairs-all a h)
-  pairs-only (pairs-some-fit a h) = sym (pairs_first a h)
+  pairs_only : {x : Answer × PairRooms} → PairsGiven l totals b x → x ≡ pairs
+  pairs_only (pairs_rooms_differ n) = sym (pairs_differ n)
+  pairs_only (pairs_all_fit a h) = sym (pairs_all a h)
+  pairs_only (pairs_some_fit a h) = sym (pairs_first a h)
 
-  pairs-permitted : PairsGiven l totals b pairs
-  pairs-permitted = rooms (pairRoomsAgree b) refl (dec_lt (length b.distances) (length l))
+  pairs_permitted : PairsGiven l totals b pairs
+  pairs_permitted = rooms (pair_rooms_agree b) refl (dec_lt (length b.distances) (length l))
     where
-      rooms : (x : Bool) → pairRoomsAgree b ≡ x → Dec (length b.distances < length l) → PairsGiven l totals b pairs
-      rooms false e d = let n : PairRoomsAgree b → ⊥ = λ a. not-both ((rooms-agree b).1 a) e in subst (PairsGiven l totals b) (sym (pairs-differ n)) (pairs-rooms-differ n)
-      rooms true e (yes h) = subst (PairsGiven l totals b) (sym (pairs_first ((rooms-agree b).0 e) h)) (pairs-some-fit ((rooms-agree b).0 e) h)
+      rooms : (x : Bool) → pair_rooms_agree b ≡ x → Dec (length b.distances < length l) → PairsGiven l totals b pairs
+      rooms false e d = let n : PairRoomsAgree b → ⊥ = λ a. not_both ((rooms_agree b).1 a) e in subst (PairsGiven l totals b) (sym (pairs_differ n)) (pairs_rooms_differ n)
+      rooms true e (yes h) = subst (PairsGiven l totals b) (sym (pairs_first ((rooms_agree b).0 e) h)) (pairs_some_fit ((rooms_agree b).0 e) h)
       rooms true e (no n) =
           let h : length l ≤ length b.distances = omega arith in
-          subst (PairsGiven l totals b) (sym (pairs-all ((rooms-agree b).0 e) h)) (pairs-all-fit ((rooms-agree b).0 e) h)
+          subst (PairsGiven l totals b) (sym (pairs_all ((rooms_agree b).0 e) h)) (pairs_all_fit ((rooms_agree b).0 e) h)
 
   pub pairs-given-mean : (x : Answer × PairRooms) → PairsGiven l totals b x ↔ (x ≡ pairs)
-  pairs-given-mean x = (pairs-only, λ e. subst (PairsGiven l totals b) (sym e) pairs-permitted)
+  pairs-given-mean x = (pairs_only, λ e. subst (PairsGiven l totals b) (sym e) pairs_permitted)
 
 -- ---- nearest
 
 -- what any engine's answers are like: none, and no totals, if a tree holds no points; else one for each left place
 pub record ForEachLeft (j : Trees) (l : List Neighbour) (totals : Totals) : Type 0 where
-  pub of_none : noPoints j ≡ true → (l ≡ []) × (totals ≡ none)
-  pub of_some : noPoints j ≡ false → length l ≡ places j.left
+  pub of_none : no_points j ≡ true → (l ≡ []) × (totals ≡ none)
+  pub of_some : no_points j ≡ false → length l ≡ places j.left
 
-pub near-rooms-agree : (b : NearRooms) → (nearRoomsAgree b ≡ true) ↔ NearRoomsAgree b
+pub near-rooms-agree : (b : NearRooms) → (near_rooms_agree b ≡ true) ↔ NearRoomsAgree b
 near-rooms-agree b = equal (length b.items) (length b.distances)
 
 module _ (j : Trees) (l : List Neighbour) (totals : Totals) (each : ForEachLeft j l totals) (b : NearRooms) where
@@ -76,44 +76,44 @@ module _ (j : Trees) (l : List Neighbour) (totals : Totals) (each : ForEachLeft 
   n = places j.left
 
   abbrev near : Answer × NearRooms
-  near = nearestGiven l totals b (nearRoomsAgree b) (nearRoomOk j b)
+  near = nearestGiven l totals b (near_rooms_agree b) (near_room_ok j b)
 
-  near-differ : (NearRoomsAgree b → ⊥) → near ≡ (refused 8 0, b)
-  near-differ d = rw (fails (nearRoomsAgree b) (λ e. d ((near-rooms-agree b).0 e))) refl
+  near_differ : (NearRoomsAgree b → ⊥) → near ≡ (refused 8 0, b)
+  near_differ d = rw (fails (near_rooms_agree b) (λ e. d ((near-rooms-agree b).0 e))) refl
 
-  near-short : NearRoomsAgree b → noPoints j ≡ false → length b.distances < n → near ≡ (refused 9 0, b)
-  near-short a e h = rw ((near-rooms-agree b).1 a, e, exceeds n (length b.distances) h) refl
+  near_short : NearRoomsAgree b → no_points j ≡ false → length b.distances < n → near ≡ (refused 9 0, b)
+  near_short a e h = rw ((near-rooms-agree b).1 a, e, exceeds n (length b.distances) h) refl
 
-  near_none : NearRoomsAgree b → noPoints j ≡ true → near ≡ (answered 0 0 none, b)
+  near_none : NearRoomsAgree b → no_points j ≡ true → near ≡ (answered 0 0 none, b)
   near_none a e =
       let z = each.of_none e in
       rw
-      ((near-rooms-agree b).1 a, e, stored-all (λ x. x.item) l b.items (omega (arith, ap length z.0)), stored-all (λ x. x.distance) l b.distances (omega (arith, ap length z.0)), z.0, z.1)
+      ((near-rooms-agree b).1 a, e, stored_all (λ x. x.item) l b.items (omega (arith, ap length z.0)), stored_all (λ x. x.distance) l b.distances (omega (arith, ap length z.0)), z.0, z.1)
       refl
 
-  near-written : NearRoomsAgree b → noPoints j ≡ false → n ≤ length b.distances → near ≡ (answered 0 n totals, answersStored n l b)
-  near-written a e h =
+  near_written : NearRoomsAgree b → no_points j ≡ false → n ≤ length b.distances → near ≡ (answered 0 n totals, answers_stored n l b)
+  near_written a e h =
       let k : length l ≡ n = each.of_some e in
       rw
-      ((near-rooms-agree b).1 a, e, (at_most n (length b.distances)).1 h, stored-all (λ x. x.item) l b.items (omega arith), stored-all (λ x. x.distance) l b.distances (omega arith), k)
+      ((near-rooms-agree b).1 a, e, (at_most n (length b.distances)).1 h, stored_all (λ x. x.item) l b.items (omega arith), stored_all (λ x. x.distance) l b.distances (omega arith), k)
       refl
 
-  near-only : {x : Answer × NearRooms} → NearestGiven j l totals b x → x ≡ near
-  near-only (nearest-rooms-differ d) = sym (near-differ d)
-  near-only (nearest-room-short a e h) = sym (near-short a e h)
-  near-only (nearest-no-points a e) = sym (near_none a e)
-  near-only (nearest-written a e h) = sym (near-written a e h)
+  near_only : {x : Answer × NearRooms} → NearestGiven j l totals b x → x ≡ near
+  near_only (nearest_rooms_differ d) = sym (near_differ d)
+  near_only (nearest_room_short a e h) = sym (near_short a e h)
+  near_only (nearest_no_points a e) = sym (near_none a e)
+  near_only (nearest_written a e h) = sym (near_written a e h)
 
-  near-permitted : NearestGiven j l totals b near
-  near-permitted = rooms (nearRoomsAgree b) refl (noPoints j) refl (dec_lt (length b.distances) n)
+  near_permitted : NearestGiven j l totals b near
+  near_permitted = rooms (near_rooms_agree b) refl (no_points j) refl (dec_lt (length b.distances) n)
     where
-      rooms : (x : Bool) → nearRoomsAgree b ≡ x → (y : Bool) → noPoints j ≡ y → Dec (length b.distances < n) → NearestGiven j l totals b near
-      rooms false e y f d = let k : NearRoomsAgree b → ⊥ = λ a. not-both ((near-rooms-agree b).1 a) e in subst (NearestGiven j l totals b) (sym (near-differ k)) (nearest-rooms-differ k)
-      rooms true e true f d = subst (NearestGiven j l totals b) (sym (near_none ((near-rooms-agree b).0 e) f)) (nearest-no-points ((near-rooms-agree b).0 e) f)
-      rooms true e false f (yes h) = subst (NearestGiven j l totals b) (sym (near-short ((near-rooms-agree b).0 e) f h)) (nearest-room-short ((near-rooms-agree b).0 e) f h)
+      rooms : (x : Bool) → near_rooms_agree b ≡ x → (y : Bool) → no_points j ≡ y → Dec (length b.distances < n) → NearestGiven j l totals b near
+      rooms false e y f d = let k : NearRoomsAgree b → ⊥ = λ a. not_both ((near-rooms-agree b).1 a) e in subst (NearestGiven j l totals b) (sym (near_differ k)) (nearest_rooms_differ k)
+      rooms true e true f d = subst (NearestGiven j l totals b) (sym (near_none ((near-rooms-agree b).0 e) f)) (nearest_no_points ((near-rooms-agree b).0 e) f)
+      rooms true e false f (yes h) = subst (NearestGiven j l totals b) (sym (near_short ((near-rooms-agree b).0 e) f h)) (nearest_room_short ((near-rooms-agree b).0 e) f h)
       rooms true e false f (no k) =
           let h : n ≤ length b.distances = omega arith in
-          subst (NearestGiven j l totals b) (sym (near-written ((near-rooms-agree b).0 e) f h)) (nearest-written ((near-rooms-agree b).0 e) f h)
+          subst (NearestGiven j l totals b) (sym (near_written ((near-rooms-agree b).0 e) f h)) (nearest_written ((near-rooms-agree b).0 e) f h)
 
   pub nearest-given-means : (x : Answer × NearRooms) → NearestGiven j l totals b x ↔ (x ≡ near)
-  nearest-given-means x = (near-only, λ e. subst (NearestGiven j l totals b) (sym e) near-permitted)
+  nearest-given-means x = (near_only, λ e. subst (NearestGiven j l totals b) (sym e) near_permitted)

@@ -5,8 +5,8 @@ use Rattle.std.proofs.Math.Nat.{sub-zero}
 use Rattle.std.proofs.Math.Decide.{dec_lt}
 use Rattle.std.proofs.Math.Dec.{nleb→lt}
 use Rattle.written.specs.Places.{In}
-use Rattle.written.specs.LentTree.{Tree, leaves, places, start, firstFrom, levels, Cursor, root, middle, near, far, Node, the-root, near_of, far-of, part}
-use Rattle.written.specs.NodePairs.{allPlaces}
+use Rattle.written.specs.LentTree.{Tree, leaves, places, start, first_from, levels, Cursor, root, middle, near, far, Node, the_root, near_of, far_of, part}
+use Rattle.written.specs.NodePairs.{all_places}
 use Rattle.written.specs.Laws.Places.{Halves}
 
 -- the starts begin at 0, never fall and end at the number of items
@@ -20,56 +20,56 @@ pub record On (t : Tree) (c : Cursor) : Type 0 where
   pub ordered : c.first ≤ c.end
   pub inside : c.end ≤ leaves t
 
-pub on-node : {t : Tree} {c : Cursor} → Node t c → On t c
-on-node the-root = record { ordered = omega arith; inside = omega arith }
-on-node (near_of n h) = let o = on-node n in record { ordered = omega arith; inside = omega arith }
-on-node (far-of n h) = let o = on-node n in record { ordered = omega arith; inside = omega arith }
+pub on_node : {t : Tree} {c : Cursor} → Node t c → On t c
+on_node the_root = record { ordered = omega arith; inside = omega arith }
+on_node (near_of n h) = let o = on_node n in record { ordered = omega arith; inside = omega arith }
+on_node (far_of n h) = let o = on_node n in record { ordered = omega arith; inside = omega arith }
 
 -- ---- places under a node
 
 module _ (t : Tree) (c : Cursor) (l : Laid t) (n : Node t c) where
-  pub part-halves : Halves (part t c) (part t (near c)) (part t (far c))
-  part-halves =
-      let o : On t c = on-node n in
+  pub part_halves : Halves (part t c) (part t (near c)) (part t (far c))
+  part_halves =
+      let o : On t c = on_node n in
       let x : start t c.first ≤ start t (middle c) = l.rises c.first (middle c) (omega arith) (omega arith) in
       let y : start t (middle c) ≤ start t c.end = l.rises (middle c) c.end (omega arith) o.inside in
       record { first = refl; then = omega arith; both = omega arith }
 
   pub part_in : {p : ℕ} → In p (part t c) → p < places t
   part_in {p} i =
-      let o : On t c = on-node n in
+      let o : On t c = on_node n in
       let x : start t c.first ≤ start t c.end = l.rises c.first c.end o.ordered o.inside in
       let y : start t c.end ≤ start t (leaves t) = l.rises c.end (leaves t) o.inside (omega arith) in
       omega (arith, l.finishes)
 
-pub part-root : (t : Tree) → Laid t → part t (root t) ≡ allPlaces t
-part-root t l = rw (l.begins, l.finishes, sub-zero)
+pub part_root : (t : Tree) → Laid t → part t (root t) ≡ all_places t
+part_root t l = rw (l.begins, l.finishes, sub-zero)
 
 -- ---- levels: the least exponent whose power of two is not below m
 
-first-enough : (k r m : ℕ) → m ≤ 2 ^ (r + k) → m ≤ 2 ^ firstFrom k r m
-unfolding firstFrom
-first-enough zero r m h = rw add-zero at h
-first-enough (suc k) r m h = go (leb m (2 ^ r)) refl (first-enough k (suc r) m (rw (suc-add, ← add-suc) h))
+first_enough : (k r m : ℕ) → m ≤ 2 ^ (r + k) → m ≤ 2 ^ first_from k r m
+unfolding first_from
+first_enough zero r m h = rw add-zero at h
+first_enough (suc k) r m h = go (leb m (2 ^ r)) refl (first_enough k (suc r) m (rw (suc-add, ← add-suc) h))
   where
-    go : (b : Bool) → leb m (2 ^ r) ≡ b → m ≤ 2 ^ firstFrom k (suc r) m → m ≤ 2 ^ cond b r (firstFrom k (suc r) m)
+    go : (b : Bool) → leb m (2 ^ r) ≡ b → m ≤ 2 ^ first_from k (suc r) m → m ≤ 2 ^ cond b r (first_from k (suc r) m)
     go true e x = leb→le m (2 ^ r) (subst T (sym e) tt)
     go false e x = x
 
-below-pow : (m : ℕ) → suc m ≤ 2 ^ m
-below-pow zero = omega arith
-below-pow (suc m) = omega (arith, below-pow m)
+below_pow : (m : ℕ) → suc m ≤ 2 ^ m
+below_pow zero = omega arith
+below_pow (suc m) = omega (arith, below_pow m)
 
-pub levels-enough : (m : ℕ) → m ≤ 2 ^ levels m
+pub levels_enough : (m : ℕ) → m ≤ 2 ^ levels m
 unfolding levels
-levels-enough m = first-enough m 0 m (rw zero-add (omega (arith, below-pow m)))
+levels_enough m = first_enough m 0 m (rw zero-add (omega (arith, below_pow m)))
 
-first-least : (k r m n : ℕ) → r ≤ n → m ≤ 2 ^ n → firstFrom k r m ≤ n
-unfolding firstFrom
-first-least zero r m n h i = h
-first-least (suc k) r m n h i = go (leb m (2 ^ r)) refl (first-least k (suc r) m n)
+first_least : (k r m n : ℕ) → r ≤ n → m ≤ 2 ^ n → first_from k r m ≤ n
+unfolding first_from
+first_least zero r m n h i = h
+first_least (suc k) r m n h i = go (leb m (2 ^ r)) refl (first_least k (suc r) m n)
   where
-    go : (b : Bool) → leb m (2 ^ r) ≡ b → (suc r ≤ n → m ≤ 2 ^ n → firstFrom k (suc r) m ≤ n) → cond b r (firstFrom k (suc r) m) ≤ n
+    go : (b : Bool) → leb m (2 ^ r) ≡ b → (suc r ≤ n → m ≤ 2 ^ n → first_from k (suc r) m ≤ n) → cond b r (first_from k (suc r) m) ≤ n
     go true e f = h
     go false e f = f (above (dec_lt r n)) i
       where
@@ -80,9 +80,9 @@ first-least (suc k) r m n h i = go (leb m (2 ^ r)) refl (first-least k (suc r) m
         above (yes l) = omega arith
         above (no l) = absurd (omega (arith, more, pow_mono {i = n} {j = r} (omega arith)))
 
-pub levels-least : (m n : ℕ) → m ≤ 2 ^ n → levels m ≤ n
+pub levels_least : (m n : ℕ) → m ≤ 2 ^ n → levels m ≤ n
 unfolding levels
-levels-least m n h = first-least m 0 m n (omega arith) h
+levels_least m n h = first_least m 0 m n (omega arith) h
 
 -- ---- where a node of a tree with m leaves stands
 
@@ -93,24 +93,24 @@ pub record Placed (m : ℕ) (c : Cursor) : Type 0 where
   pub high : c.stem < 2 ^ suc c.level
   pub sum : c.level + c.rest ≡ levels m
 
-pub pow-half : (n : ℕ) → 0 < n → 2 ^ n ≡ 2 * 2 ^ (n - 1)
-pow-half zero h = absurd (omega arith)
-pow-half (suc n) h =
+pub pow_half : (n : ℕ) → 0 < n → 2 ^ n ≡ 2 * 2 ^ (n - 1)
+pow_half zero h = absurd (omega arith)
+pow_half (suc n) h =
     let e : suc n - 1 ≡ n = omega arith in
     rw e (omega arith)
 
 module _ (m : ℕ) (c : Cursor) (h : 0 < c.rest) (p : Placed m c) where
-  placed-near : Placed m (near c)
-  placed-near =
+  placed_near : Placed m (near c)
+  placed_near =
       let low : 2 ^ suc c.level ≤ 2 * c.stem = omega (arith, p.low) in
-      record { begins = p.begins; clipped = omega (arith, pow-half c.rest h, p.clipped); low = low; high = omega (arith, p.high); sum = omega (arith, p.sum) }
+      record { begins = p.begins; clipped = omega (arith, pow_half c.rest h, p.clipped); low = low; high = omega (arith, p.high); sum = omega (arith, p.sum) }
 
-  placed-far : Placed m (far c)
-  placed-far =
+  placed_far : Placed m (far c)
+  placed_far =
       let low : 2 ^ suc c.level ≤ 2 * c.stem + 1 = omega (arith, p.low) in
-      record { begins = omega (arith, p.clipped, p.begins); clipped = omega (arith, pow-half c.rest h, p.clipped, p.begins); low = low; high = omega (arith, p.high); sum = omega (arith, p.sum) }
+      record { begins = omega (arith, p.clipped, p.begins); clipped = omega (arith, pow_half c.rest h, p.clipped, p.begins); low = low; high = omega (arith, p.high); sum = omega (arith, p.sum) }
 
 pub placed : {t : Tree} {c : Cursor} → Node t c → Placed (leaves t) c
-placed {t} the-root = record { begins = omega arith; clipped = omega (arith, levels-enough (leaves t)); low = omega arith; high = omega arith; sum = zero-add (levels (leaves t)) }
-placed {t} (near_of {c = c} n h) = placed-near (leaves t) c h (placed n)
-placed {t} (far-of {c = c} n h) = placed-far (leaves t) c h (placed n)
+placed {t} the_root = record { begins = omega arith; clipped = omega (arith, levels_enough (leaves t)); low = omega arith; high = omega arith; sum = zero-add (levels (leaves t)) }
+placed {t} (near_of {c = c} n h) = placed_near (leaves t) c h (placed n)
+placed {t} (far_of {c = c} n h) = placed_far (leaves t) c h (placed n)

@@ -5,38 +5,38 @@ use Rattle.std.proofs.Common.{ap, ◌∙◌, inl, inr, add-zero, add-suc, suc-ad
 use Rattle.std.proofs.Math.Decide.{ℕ_discrete}
 use Rattle.std.specs.Float.{nan, inf, fin}
 use Rattle.std.specs.Float.Ieee.{le, lt, eq}
-use Rattle.rounding.specs.Order.{known, le_refl, le_trans, lt-true→le, lt-false→le}
-use Rattle.written.specs.Nearest.{Neighbour, unset, answerAt, nearer, improve, atEach, largest}
+use Rattle.rounding.specs.Order.{known, le_refl, le_trans, lt_true→le, lt_false→le}
+use Rattle.written.specs.Nearest.{Neighbour, unset, answer_at, nearer, improve, at_each, largest}
 
 -- ---- a change at each place
 
-pub length-atEach : (h : ℕ → Neighbour → Neighbour) (k : ℕ) (c : List Neighbour) → length (atEach h k c) ≡ length c
-unfolding atEach
-length-atEach h k [] = refl
-length-atEach h k (y ∷ ys) = ap suc (length-atEach h (suc k) ys)
+pub length_at_each : (h : ℕ → Neighbour → Neighbour) (k : ℕ) (c : List Neighbour) → length (at_each h k c) ≡ length c
+unfolding at_each
+length_at_each h k [] = refl
+length_at_each h k (y ∷ ys) = ap suc (length_at_each h (suc k) ys)
 
-pub get-atEach : (h : ℕ → Neighbour → Neighbour) (k : ℕ) (c : List Neighbour) (i : ℕ) → i < length c → answerAt (atEach h k c) i ≡ h (k + i) (answerAt c i)
-unfolding atEach
-get-atEach h k [] i l = absurd (not-suc-le-zero l)
-get-atEach h k (y ∷ ys) zero l = rw add-zero
-get-atEach h k (y ∷ ys) (suc i) l = get-atEach h (suc k) ys i (omega arith) ∙ rw (suc-add, add-suc)
+pub get_at_each : (h : ℕ → Neighbour → Neighbour) (k : ℕ) (c : List Neighbour) (i : ℕ) → i < length c → answer_at (at_each h k c) i ≡ h (k + i) (answer_at c i)
+unfolding at_each
+get_at_each h k [] i l = absurd (not-suc-le-zero l)
+get_at_each h k (y ∷ ys) zero l = rw add-zero
+get_at_each h k (y ∷ ys) (suc i) l = get_at_each h (suc k) ys i (omega arith) ∙ rw (suc-add, add-suc)
 
-pub out-atEach : (h : ℕ → Neighbour → Neighbour) (k : ℕ) (c : List Neighbour) (i : ℕ) → length c ≤ i → answerAt (atEach h k c) i ≡ answerAt c i
-unfolding atEach
-out-atEach h k [] i l = refl
-out-atEach h k (y ∷ ys) zero l = absurd (not-suc-le-zero l)
-out-atEach h k (y ∷ ys) (suc i) l = out-atEach h (suc k) ys i (omega arith)
+pub out_at_each : (h : ℕ → Neighbour → Neighbour) (k : ℕ) (c : List Neighbour) (i : ℕ) → length c ≤ i → answer_at (at_each h k c) i ≡ answer_at c i
+unfolding at_each
+out_at_each h k [] i l = refl
+out_at_each h k (y ∷ ys) zero l = absurd (not-suc-le-zero l)
+out_at_each h k (y ∷ ys) (suc i) l = out_at_each h (suc k) ys i (omega arith)
 
 -- ---- the nearer of two
 
-nearer-law : (x y : Neighbour) → T (known x.distance) → T (known y.distance)
+nearer_law : (x y : Neighbour) → T (known x.distance) → T (known y.distance)
     → T (known (nearer x y).distance) × T (le (nearer x y).distance x.distance) × T (le (nearer x y).distance y.distance) × ((nearer x y ≡ y) ⊎ (nearer x y ≡ x))
-nearer-law x y n m = go (lt x.distance y.distance) refl
+nearer_law x y n m = go (lt x.distance y.distance) refl
   where
     go : (b : Bool) → lt x.distance y.distance ≡ b
         → T (known (cond b x y).distance) × T (le (cond b x y).distance x.distance) × T (le (cond b x y).distance y.distance) × ((cond b x y ≡ y) ⊎ (cond b x y ≡ x))
-    go true e = (n, le_refl x.distance n, lt-true→le x.distance y.distance e, inr refl)
-    go false e = (m, lt-false→le x.distance y.distance n m e, le_refl y.distance m, inl refl)
+    go true e = (n, le_refl x.distance n, lt_true→le x.distance y.distance e, inr refl)
+    go false e = (m, lt_false→le x.distance y.distance n m e, le_refl y.distance m, inl refl)
 
 -- ---- an answer y against n right places from a on came to z
 
@@ -46,9 +46,9 @@ pub record Improved (g : ℕ → Neighbour) (a n : ℕ) (y z : Neighbour) : Type
   pub down : T (le z.distance y.distance)
   pub comes : (z ≡ y) ⊎ ((q : ℕ) × (a ≤ q) × (q < a + n) × (z ≡ g q))
 
-improved-step : (g : ℕ → Neighbour) (a n : ℕ) (y z : Neighbour) → T (le (nearer (g a) y).distance (g a).distance) → T (le (nearer (g a) y).distance y.distance)
+improved_step : (g : ℕ → Neighbour) (a n : ℕ) (y z : Neighbour) → T (le (nearer (g a) y).distance (g a).distance) → T (le (nearer (g a) y).distance y.distance)
     → (nearer (g a) y ≡ y) ⊎ (nearer (g a) y ≡ g a) → Improved g (suc a) n (nearer (g a) y) z → Improved g a (suc n) y z
-improved-step g a n y z u v w i =
+improved_step g a n y z u v w i =
     record { num = i.num; low = λ q k l. low q k l (ℕ_discrete q a); down = le_trans _ _ _ i.down v; comes = comes i.comes w }
   where
     low : (q : ℕ) → a ≤ q → q < a + suc n → Dec (q ≡ a) → T (le z.distance (g q).distance)
@@ -65,43 +65,43 @@ pub improved : (g : ℕ → Neighbour) (a n : ℕ) → ((q : ℕ) → a ≤ q �
 unfolding improve
 improved g a zero h y m = record { num = m; low = λ q i j. absurd (omega arith); down = le_refl y.distance m; comes = inl refl }
 improved g a (suc n) h y m =
-    let w = nearer-law (g a) y (h a (omega arith) (omega arith)) m in
-    improved-step g a n y (improve g (suc a) n (nearer (g a) y)) w.1 w.2 w.3 (improved g (suc a) n (λ q i j. h q (omega arith) (omega arith)) (nearer (g a) y) w.0)
+    let w = nearer_law (g a) y (h a (omega arith) (omega arith)) m in
+    improved_step g a n y (improve g (suc a) n (nearer (g a) y)) w.1 w.2 w.3 (improved g (suc a) n (λ q i j. h q (omega arith) (omega arith)) (nearer (g a) y) w.0)
 
 -- ---- the largest distance held
 
-larger-law : (m x : Float) → T (known m) → T (known x) → T (known (cond (lt m x) x m)) × T (le m (cond (lt m x) x m)) × T (le x (cond (lt m x) x m))
-larger-law m x k h = go (lt m x) refl
+larger_law : (m x : Float) → T (known m) → T (known x) → T (known (cond (lt m x) x m)) × T (le m (cond (lt m x) x m)) × T (le x (cond (lt m x) x m))
+larger_law m x k h = go (lt m x) refl
   where
     go : (b : Bool) → lt m x ≡ b → T (known (cond b x m)) × T (le m (cond b x m)) × T (le x (cond b x m))
-    go true e = (h, lt-true→le m x e, le_refl x h)
-    go false e = (k, le_refl m k, lt-false→le m x k h e)
+    go true e = (h, lt_true→le m x e, le_refl x h)
+    go false e = (k, le_refl m k, lt_false→le m x k h e)
 
-pub largest-law : (c : List Neighbour) → ((p : ℕ) → T (known (answerAt c p).distance)) → (a n : ℕ) (m : Float) → T (known m)
-    → T (le m (largest c a n m)) × ((p : ℕ) → a ≤ p → p < a + n → T (le (answerAt c p).distance (largest c a n m)))
+pub largest_law : (c : List Neighbour) → ((p : ℕ) → T (known (answer_at c p).distance)) → (a n : ℕ) (m : Float) → T (known m)
+    → T (le m (largest c a n m)) × ((p : ℕ) → a ≤ p → p < a + n → T (le (answer_at c p).distance (largest c a n m)))
 unfolding largest
-largest-law c h a zero m k = (le_refl m k, λ p i j. absurd (omega arith))
-largest-law c h a (suc n) m k =
-    let l = larger-law m (answerAt c a).distance k (h a) in
-    let w = largest-law c h (suc a) n (cond (lt m (answerAt c a).distance) (answerAt c a).distance m) l.0 in
-    (le_trans _ _ _ l.1 w.0, λ p i j. at c a n p (largest c (suc a) n (cond (lt m (answerAt c a).distance) (answerAt c a).distance m)) (le_trans _ _ _ l.2 w.0) w.1 i j (ℕ_discrete p a))
+largest_law c h a zero m k = (le_refl m k, λ p i j. absurd (omega arith))
+largest_law c h a (suc n) m k =
+    let l = larger_law m (answer_at c a).distance k (h a) in
+    let w = largest_law c h (suc a) n (cond (lt m (answer_at c a).distance) (answer_at c a).distance m) l.0 in
+    (le_trans _ _ _ l.1 w.0, λ p i j. at c a n p (largest c (suc a) n (cond (lt m (answer_at c a).distance) (answer_at c a).distance m)) (le_trans _ _ _ l.2 w.0) w.1 i j (ℕ_discrete p a))
   where
-    at : (c : List Neighbour) (a n p : ℕ) (v : Float) → T (le (answerAt c a).distance v) → ((p : ℕ) → suc a ≤ p → p < suc a + n → T (le (answerAt c p).distance v))
-        → a ≤ p → p < a + suc n → Dec (p ≡ a) → T (le (answerAt c p).distance v)
+    at : (c : List Neighbour) (a n p : ℕ) (v : Float) → T (le (answer_at c a).distance v) → ((p : ℕ) → suc a ≤ p → p < suc a + n → T (le (answer_at c p).distance v))
+        → a ≤ p → p < a + suc n → Dec (p ≡ a) → T (le (answer_at c p).distance v)
     at c a n p v x y i j (yes e) = rw e x
     at c a n p v x y i j (no u) = y p (omega arith) (omega arith)
 
 -- ---- where the answers start
 
-pub get-unset : (n p : ℕ) → answerAt (replicate n unset) p ≡ unset
-get-unset zero p = refl
-get-unset (suc n) zero = refl
-get-unset (suc n) (suc p) = get-unset n p
+pub get_unset : (n p : ℕ) → answer_at (replicate n unset) p ≡ unset
+get_unset zero p = refl
+get_unset (suc n) zero = refl
+get_unset (suc n) (suc p) = get_unset n p
 
 -- only +inf is not below +inf
-pub le-inf : (x : Float) → T (le (inf false) x) → x ≡ inf false
+pub le_inf : (x : Float) → T (le (inf false) x) → x ≡ inf false
 unfolding le lt eq
-le-inf nan h = absurd h
-le-inf (inf false) h = refl
-le-inf (inf true) h = absurd h
-le-inf (fin s m e) h = absurd h
+le_inf nan h = absurd h
+le_inf (inf false) h = refl
+le_inf (inf true) h = absurd h
+le_inf (fin s m e) h = absurd h

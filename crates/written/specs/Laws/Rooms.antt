@@ -8,29 +8,29 @@ use Rattle.std.proofs.lemmas.List.Edits.{sets}
 use Rattle.written.specs.Answers.{stored}
 
 -- stored one after the other from the first place on
-sets-nil : {X : Type 0} (n : ℕ) (l : List X) → sets [] n l ≡ []
-sets-nil n [] = refl
-sets-nil zero (x ∷ l) = sets-nil 1 l
-sets-nil (suc n) (x ∷ l) = sets-nil (suc (suc n)) l
+sets_nil : {X : Type 0} (n : ℕ) (l : List X) → sets [] n l ≡ []
+sets_nil n [] = refl
+sets_nil zero (x ∷ l) = sets_nil 1 l
+sets_nil (suc n) (x ∷ l) = sets_nil (suc (suc n)) l
 
-sets-cons : {X : Type 0} (y : X) (ys : List X) (n : ℕ) (l : List X) → sets (y ∷ ys) (suc n) l ≡ y ∷ sets ys n l
-sets-cons y ys n [] = refl
-sets-cons y ys n (x ∷ l) = sets-cons y (set ys n x) (suc n) l
+sets_cons : {X : Type 0} (y : X) (ys : List X) (n : ℕ) (l : List X) → sets (y ∷ ys) (suc n) l ≡ y ∷ sets ys n l
+sets_cons y ys n [] = refl
+sets_cons y ys n (x ∷ l) = sets_cons y (set ys n x) (suc n) l
 
-pub sets-stored : {X : Type 0} (l b : List X) → sets b 0 l ≡ stored l b
+pub sets_stored : {X : Type 0} (l b : List X) → sets b 0 l ≡ stored l b
 unfolding stored
-sets-stored [] [] = refl
-sets-stored [] (y ∷ b) = refl
-sets-stored (x ∷ l) [] = sets-nil 1 l
-sets-stored (x ∷ l) (y ∷ b) = sets-cons x b 0 l ∙ ap (◌∷◌ x) (sets-stored l b)
+sets_stored [] [] = refl
+sets_stored [] (y ∷ b) = refl
+sets_stored (x ∷ l) [] = sets_nil 1 l
+sets_stored (x ∷ l) (y ∷ b) = sets_cons x b 0 l ∙ ap (◌∷◌ x) (sets_stored l b)
 
 -- ---- by whether all fits
 
 module _ {X Y : Type 0} (g : X → Y) (l : List X) (buffer : List Y) where
-  pub stored-all : length l ≤ length buffer → stored (map g l) buffer ≡ map g l ++ drop (length l) buffer
+  pub stored_all : length l ≤ length buffer → stored (map g l) buffer ≡ map g l ++ drop (length l) buffer
   unfolding stored
-  stored-all h = rw (take_all (length buffer) (map g l) (omega (arith, length-map l g)), length-map l g) refl
+  stored_all h = rw (take_all (length buffer) (map g l) (omega (arith, length-map l g)), length-map l g) refl
 
-  pub stored-first : length buffer ≤ length l → stored (map g l) buffer ≡ take (length buffer) (map g l)
+  pub stored_first : length buffer ≤ length l → stored (map g l) buffer ≡ take (length buffer) (map g l)
   unfolding stored
-  stored-first h = rw (drop_of_length-le buffer {i = length (map g l)} (omega (arith, length-map l g)), append-nil) refl
+  stored_first h = rw (drop_of_length-le buffer {i = length (map g l)} (omega (arith, length-map l g)), append-nil) refl

@@ -30,8 +30,8 @@ pub granted : {r v : Bool} → r ≡ v → not r ≡ false → v ≡ true
 granted {r = true} e h = sym e
 granted {r = false} e h = absurd (true≢false h)
 
-pub not-both : {t : Bool} → t ≡ true → t ≡ false → ⊥
-not-both e f = true≢false (sym e ∙ f)
+pub not_both : {t : Bool} → t ≡ true → t ≡ false → ⊥
+not_both e f = true≢false (sym e ∙ f)
 
 pub not-true : (t : Bool) → not t ≡ true → t ≡ false
 not-true true e = sym e
@@ -66,6 +66,6 @@ exceeds m n h = denies (leb m n) (λ (g : T (leb m n)). omega (arith, leb→le m
 pub equal : (m n : ℕ) → (eqb m n ≡ true) ↔ (m ≡ n)
 equal m n = (λ e. eqb→eq m n (gave e), λ h. T_true (eqb m n) (subst (λ (k : ℕ). T (eqb m k)) h (eqb_refl m)))
 
-pub not-zero : (n : ℕ) → eqb n 0 ≡ false → 0 < n
-not-zero zero e = absurd (true≢false e)
-not-zero (suc n) e = omega arith
+pub not_zero : (n : ℕ) → eqb n 0 ≡ false → 0 < n
+not_zero zero e = absurd (true≢false e)
+not_zero (suc n) e = omega arith

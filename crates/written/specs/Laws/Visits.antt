@@ -5,8 +5,8 @@ use mathlib.Core.List.{List, Permᴰ}
 use Prim.Native.Nat.{ℕ, suc, ◌+◌, ◌-◌, ◌^◌, ◌≤◌, max}
 use native.Mathlib.Omega.{arith}
 use Rattle.std.proofs.Math.Pow.{pow_pos, pow_mono}
-use Rattle.written.specs.Visits.{Fate, Run, stop, one, two, is, visits, deepest, deepestFar, sum, total, gather, Ends}
-use Rattle.written.specs.Laws.Lists.{perm-append}
+use Rattle.written.specs.Visits.{Fate, Run, stop, one, two, is, visits, deepest, deepest_far, sum, total, gather, Ends}
+use Rattle.written.specs.Laws.Lists.{perm_append}
 
 module _ {S : Type 0} where
   -- the first visit
@@ -23,51 +23,51 @@ module _ {S : Type 0} where
 
   -- ---- bounds
 
-  visits-height : (r : Run S) → suc (visits r) ≤ 2 ^ suc (height r)
+  visits_height : (r : Run S) → suc (visits r) ≤ 2 ^ suc (height r)
   unfolding visits height
-  visits-height (stop s k) = omega arith
-  visits-height (one s r) = omega (arith, visits-height r, pow_pos (height r))
-  visits-height (two s r t) =
+  visits_height (stop s k) = omega arith
+  visits_height (one s r) = omega (arith, visits_height r, pow_pos (height r))
+  visits_height (two s r t) =
       let h = max (height r) (height t) in
-      omega (arith, visits-height r, visits-height t, pow_mono {i = suc (height r)} {j = suc h} (omega arith), pow_mono {i = suc (height t)} {j = suc h} (omega arith))
+      omega (arith, visits_height r, visits_height t, pow_mono {i = suc (height r)} {j = suc h} (omega arith), pow_mono {i = suc (height t)} {j = suc h} (omega arith))
 
-  pub visits-bound : (d : ℕ) (r : Run S) → height r ≤ d → visits r ≤ 2 ^ (d + 1) - 1
-  visits-bound d r h = omega (arith, visits-height r, pow_mono {i = suc (height r)} {j = d + 1} (omega arith))
+  pub visits_bound : (d : ℕ) (r : Run S) → height r ≤ d → visits r ≤ 2 ^ (d + 1) - 1
+  visits_bound d r h = omega (arith, visits_height r, pow_mono {i = suc (height r)} {j = d + 1} (omega arith))
 
-  pub deepest-bound : (w : ℕ) (r : Run S) → deepest w r ≤ w + height r
+  pub deepest_bound : (w : ℕ) (r : Run S) → deepest w r ≤ w + height r
   unfolding deepest height
-  deepest-bound w (stop s k) = omega arith
-  deepest-bound w (one s r) = omega (arith, deepest-bound w r)
-  deepest-bound w (two s r t) = omega (arith, deepest-bound (suc w) r, deepest-bound (suc w) t)
+  deepest_bound w (stop s k) = omega arith
+  deepest_bound w (one s r) = omega (arith, deepest_bound w r)
+  deepest_bound w (two s r t) = omega (arith, deepest_bound (suc w) r, deepest_bound (suc w) t)
 
-  pub deepestFar-bound : (w : ℕ) (r : Run S) → deepestFar w r ≤ suc (w + height r)
-  unfolding deepestFar height
-  deepestFar-bound w (stop s k) = omega arith
-  deepestFar-bound w (one s r) = omega (arith, deepestFar-bound w r)
-  deepestFar-bound w (two s r t) = omega (arith, deepestFar-bound w r, deepestFar-bound (suc w) t)
+  pub deepest_far_bound : (w : ℕ) (r : Run S) → deepest_far w r ≤ suc (w + height r)
+  unfolding deepest_far height
+  deepest_far_bound w (stop s k) = omega arith
+  deepest_far_bound w (one s r) = omega (arith, deepest_far_bound w r)
+  deepest_far_bound w (two s r t) = omega (arith, deepest_far_bound w r, deepest_far_bound (suc w) t)
 
   -- ---- folds
 
-  pub gather-perm : {X : Type 0} (g h : S → Fate → List X) (r : Run S) → Ends (λ s k. Permᴰ (g s k) (h s k)) r → Permᴰ (gather g r) (gather h r)
+  pub gather_perm : {X : Type 0} (g h : S → Fate → List X) (r : Run S) → Ends (λ s k. Permᴰ (g s k) (h s k)) r → Permᴰ (gather g r) (gather h r)
   unfolding gather
-  gather-perm g h (stop s k) e = e
-  gather-perm g h (one s r) e = gather-perm g h r e
-  gather-perm g h (two s r t) e = perm-append (gather-perm g h r e.0) (gather-perm g h t e.1)
+  gather_perm g h (stop s k) e = e
+  gather_perm g h (one s r) e = gather_perm g h r e
+  gather_perm g h (two s r t) e = perm_append (gather_perm g h r e.0) (gather_perm g h t e.1)
 
-  pub sum-gather : {X : Type 0} (n : S → Fate → ℕ) (g : S → Fate → List X) (r : Run S) → Ends (λ s k. n s k ≡ length (g s k)) r → sum n r ≡ length (gather g r)
+  pub sum_gather : {X : Type 0} (n : S → Fate → ℕ) (g : S → Fate → List X) (r : Run S) → Ends (λ s k. n s k ≡ length (g s k)) r → sum n r ≡ length (gather g r)
   unfolding sum gather
-  sum-gather n g (stop s k) e = e
-  sum-gather n g (one s r) e = sum-gather n g r e
-  sum-gather n g (two s r t) e = rw (sum-gather n g r e.0, sum-gather n g t e.1) (sym (length-append (gather g r) (gather g t)))
+  sum_gather n g (stop s k) e = e
+  sum_gather n g (one s r) e = sum_gather n g r e
+  sum_gather n g (two s r t) e = rw (sum_gather n g r e.0, sum_gather n g t e.1) (sym (length-append (gather g r) (gather g t)))
 
   -- where no visit ends with the fate j, the numbers of that fate add up to 0
-  pub total-none : (j : Fate) (g : S → ℕ) (r : Run S) → Ends (λ s k. is j k ≡ 0) r → total g j r ≡ 0
+  pub total_none : (j : Fate) (g : S → ℕ) (r : Run S) → Ends (λ s k. is j k ≡ 0) r → total g j r ≡ 0
   unfolding sum
-  total-none j g (stop s k) e = rw e (omega arith)
-  total-none j g (one s r) e = total-none j g r e
-  total-none j g (two s r t) e = omega (arith, total-none j g r e.0, total-none j g t e.1)
+  total_none j g (stop s k) e = rw e (omega arith)
+  total_none j g (one s r) e = total_none j g r e
+  total_none j g (two s r t) e = omega (arith, total_none j g r e.0, total_none j g t e.1)
 
-  pub ends-map : {P Q : S → Fate → Type 0} → ((s : S) (k : Fate) → P s k → Q s k) → (r : Run S) → Ends P r → Ends Q r
-  ends-map f (stop s k) e = f s k e
-  ends-map f (one s r) e = ends-map f r e
-  ends-map f (two s r t) e = (ends-map f r e.0, ends-map f t e.1)
+  pub ends_map : {P Q : S → Fate → Type 0} → ((s : S) (k : Fate) → P s k → Q s k) → (r : Run S) → Ends P r → Ends Q r
+  ends_map f (stop s k) e = f s k e
+  ends_map f (one s r) e = ends_map f r e
+  ends_map f (two s r t) e = (ends_map f r e.0, ends_map f t e.1)

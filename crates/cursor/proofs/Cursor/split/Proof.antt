@@ -4,7 +4,7 @@ use mathlib.Core.Path.{refl}
 use native.Mathlib.Numerals.{add-one}
 use native.Mathlib.Omega.{arith}
 use borrow.Author.Rules.{rules}
-use Rattle.cursor.proofs.Laws.{half_is, half-small}
+use Rattle.cursor.proofs.Laws.{half_is, half_small}
 use Rattle.cursor.proofs.Cursor.split.Statement.{statement}
 use Rattle.cursor.proofs.Cursor.split.Tie as tie
 
@@ -17,7 +17,7 @@ shl-half c = search rules
 add-least : tie.Need-overflow-add-least
 add-least c =
     let p = c.before.before.before.before.requires in
-    rw (half_is _ p.some p.few) (omega (arith, half-small _ p.few))
+    rw (half_is _ p.some p.few) (omega (arith, half_small _ p.few))
 
 least-requires : tie.Need-least-requires
 least-requires c κs = search rules

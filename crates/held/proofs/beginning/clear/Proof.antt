@@ -10,7 +10,7 @@ use lib.Seq.{take_all, take-suc-set}
 use lib.Ieee.{Float, inf, div, of_bits}
 use Rattle.written.specs.Nearest.{unset}
 use Rattle.leafnearest.specs.Answers.{answers}
-use Rattle.leafnearest.proofs.Stored.{length-answers, set-answers}
+use Rattle.leafnearest.proofs.Stored.{length_answers, set_answers}
 use borrow.Author.Rules.{rules}
 use Rattle.held.proofs.beginning.clear.Statement.{statement}
 use Rattle.held.proofs.beginning.clear.Tie as tie
@@ -18,7 +18,7 @@ use Rattle.held.proofs.beginning.clear.Tie as tie
 -- one more
 unset-next : (items : List ℕ) (dists : List Float) (i : ℕ) → length dists ≡ length items → i < length items → take i (answers items dists) ≡ replicate i unset → take (i + 1) (answers (set items i 0) (set dists i (inf false))) ≡ replicate (i + 1) unset
 unset-next items dists i e l h =
-    rw (add-one i, set-answers items dists i 0 (inf false), take-suc-set (answers items dists) i unset (omega (arith, length-answers items dists (sym e))), h)
+    rw (add-one i, set_answers items dists i 0 (inf false), take-suc-set (answers items dists) i unset (omega (arith, length_answers items dists (sym e))), h)
     (replicate-append-replicate i 1 unset ∙ ap (λ (n : ℕ). replicate n unset) (add-one i))
 
 abbrev invariant-loop : tie.invariant-loop
@@ -66,7 +66,7 @@ returns c =
     let w = c.before.loop in
     let a = c.before.before.args in
     let all : w.i ≡ length a.items.now = omega arith in
-    sym (take_all w.i (answers w.items w.dists) (omega (arith, length-answers w.items w.dists (omega arith)))) ∙ w.invariant.5 ∙ ap (λ (n : ℕ). replicate n unset) all
+    sym (take_all w.i (answers w.items w.dists) (omega (arith, length_answers w.items w.dists (omega arith)))) ∙ w.invariant.5 ∙ ap (λ (n : ℕ). replicate n unset) all
 
 pub clear_spec : {M : Type 1} → statement M
 clear_spec =

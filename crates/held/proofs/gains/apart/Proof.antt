@@ -6,17 +6,17 @@ use native.Mathlib.Omega.{arith}
 use native.Mathlib.Numerals.{add-one}
 use lib.Ieee.{Float, add, binary64, of_bits}
 use Rattle.rounding.specs.Distance.{dist1}
-use Rattle.written.specs.Boxes.{loweredTo, sides}
-use Rattle.metric.specs.Flat.{boxesOf}
-use Rattle.metric.specs.Lent.{pointAt}
+use Rattle.written.specs.Boxes.{lowered_to, sides}
+use Rattle.metric.specs.Flat.{boxes_of}
+use Rattle.metric.specs.Lent.{point_at}
 use Rattle.metric.proofs.Laws.{inside}
-use Rattle.held.specs.Apart.{apart, inRightBox}
+use Rattle.held.specs.Apart.{apart, in_right_box}
 use borrow.Author.Rules.{rules}
 use Rattle.held.proofs.gains.apart.Statement.{statement}
 use Rattle.held.proofs.gains.apart.Tie as tie
 
 abbrev invariant-loop : tie.invariant-loop
-invariant-loop k lcoords ln p min max sum₀ d₀ sum d = (d ≤ k) × (sum ≡ apart d (boxesOf min max) (pointAt lcoords ln p))
+invariant-loop k lcoords ln p min max sum₀ d₀ sum d = (d ≤ k) × (sum ≡ apart d (boxes_of min max) (point_at lcoords ln p))
 
 abbrev decreases-loop : tie.decreases-loop
 decreases-loop k lcoords ln p min max sum₀ d₀ sum d = k - d
@@ -76,9 +76,9 @@ unfolding apart
 loop-again c =
     let w = c.before.before.before.before.before.before.before.loop in
     let a = c.before.before.before.before.before.before.before.before.before.args in
-    let x : Float = pointAt a.lcoords.now a.ln a.p w.d in
-    let side : c.before.lowered.result ≡ inRightBox (boxesOf a.min.now a.max.now) (pointAt a.lcoords.now a.ln a.p) w.d =
-    c.before.lowered.ensures ∙ ap (λ (v : Float). loweredTo v (sides a.max.now 4 w.d)) c.before.before.raised.ensures
+    let x : Float = point_at a.lcoords.now a.ln a.p w.d in
+    let side : c.before.lowered.result ≡ in_right_box (boxes_of a.min.now a.max.now) (point_at a.lcoords.now a.ln a.p) w.d =
+    c.before.lowered.ensures ∙ ap (λ (v : Float). lowered_to v (sides a.max.now 4 w.d)) c.before.before.raised.ensures
     in
     (omega arith, rw (add-one w.d) (ap₂ (add binary64) w.invariant.1 (c.square.ensures ∙ ap (dist1 binary64 x) side)))
 
@@ -86,7 +86,7 @@ returns : tie.Need-returns invariant-loop decreases-loop
 returns c =
     let a = c.before.before.before.args in
     let e : c.before.loop.d ≡ a.k = omega (arith, c.loop-test.false, c.before.loop.invariant.0) in
-    c.before.loop.invariant.1 ∙ ap (λ (n : ℕ). apart n (boxesOf a.min.now a.max.now) (pointAt a.lcoords.now a.ln a.p)) e
+    c.before.loop.invariant.1 ∙ ap (λ (n : ℕ). apart n (boxes_of a.min.now a.max.now) (point_at a.lcoords.now a.ln a.p)) e
 
 pub apart-spec : {M : Type 1} → statement M
 apart-spec =

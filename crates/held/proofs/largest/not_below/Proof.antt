@@ -5,13 +5,13 @@ use Prim.Native.Nat.{◌-◌}
 use native.Mathlib.Omega.{arith}
 use lib.ListN.{length, drop}
 use lib.Ieee.{of_bits}
-use Rattle.held.proofs.NoneAbove.{noneAbove, below-is, not-below-is, one-above, next-not-above, none_left}
+use Rattle.held.proofs.NoneAbove.{none_above, below_is, not_below_is, one_above, next_not_above, none_left}
 use borrow.Author.Rules.{rules}
 use Rattle.held.proofs.largest.not_below.Statement.{statement}
 use Rattle.held.proofs.largest.not_below.Tie as tie
 
 abbrev invariant-loop : tie.invariant-loop
-invariant-loop dists bound i₀ i = noneAbove bound (drop i dists) ≡ noneAbove bound dists
+invariant-loop dists bound i₀ i = none_above bound (drop i dists) ≡ none_above bound dists
 
 abbrev decreases-loop : tie.decreases-loop
 decreases-loop dists bound i₀ i = length dists - i
@@ -29,8 +29,8 @@ returns : tie.Need-returns invariant-loop decreases-loop
 returns c =
     let w = c.before.before.before.loop in
     let a = c.before.before.before.before.args in
-    let above : noneAbove a.bound a.dists.now ≡ false = sym w.invariant ∙ one-above a.bound a.dists.now w.i (omega arith) c.if1.true in
-    sym (below-is a.bound a.dists.now above)
+    let above : none_above a.bound a.dists.now ≡ false = sym w.invariant ∙ one_above a.bound a.dists.now w.i (omega arith) c.if1.true in
+    sym (below_is a.bound a.dists.now above)
 
 add-i : tie.Need-overflow-add-i invariant-loop decreases-loop
 add-i c = search rules
@@ -42,15 +42,15 @@ loop-again : tie.Need-loop-preserved invariant-loop decreases-loop
 loop-again c =
     let w = c.before.before.before.loop in
     let a = c.before.before.before.before.args in
-    next-not-above a.bound a.dists.now w.i (omega arith) c.if1.false ∙ w.invariant
+    next_not_above a.bound a.dists.now w.i (omega arith) c.if1.false ∙ w.invariant
 
 returns-2 : tie.Need-returns-2 invariant-loop decreases-loop
 unfolding of_bits
 returns-2 c =
     let w = c.before.loop in
     let a = c.before.before.args in
-    let none : noneAbove a.bound a.dists.now ≡ true = sym w.invariant ∙ none_left a.bound a.dists.now w.i (omega arith) in
-    sym (not-below-is a.bound a.dists.now none)
+    let none : none_above a.bound a.dists.now ≡ true = sym w.invariant ∙ none_left a.bound a.dists.now w.i (omega arith) in
+    sym (not_below_is a.bound a.dists.now none)
 
 pub not-below-spec : {M : Type 1} → statement M
 not-below-spec =

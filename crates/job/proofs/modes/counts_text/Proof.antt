@@ -1,7 +1,7 @@
 -- No lines. Assumes nothing.
 use borrow.Author.Rules.{rules}
-use Rattle.job.proofs.Texts.{puts-as}
-use Rattle.job.proofs.Telling.{counts-told}
+use Rattle.job.proofs.Texts.{puts_as}
+use Rattle.job.proofs.Telling.{counts_told}
 use Rattle.job.proofs.modes.counts_text.Statement.{statement}
 use Rattle.job.proofs.modes.counts_text.Tie as tie
 
@@ -20,7 +20,7 @@ same_length c = search rules
 returns : tie.Need-returns
 returns c =
     let t = c.before.before.told.ensures in
-    record { put = puts-as (counts-told _ _ _ _ _ _ _ c.before.before.before.before.before.counts.ensures) t.put; bounded = t.bounded }
+    record { put = puts_as (counts_told _ _ _ _ _ _ _ c.before.before.before.before.before.counts.ensures) t.put; bounded = t.bounded }
 
 pub counts-text-spec : {M : Type 1} → statement M
 counts-text-spec =

@@ -1,8 +1,8 @@
 -- The left items, and the rooms as the call left them. Assumes nothing.
 use native.Mathlib.Omega.{arith}
 use borrow.Author.Rules.{rules}
-use Rattle.job.proofs.Texts.{puts-as}
-use Rattle.job.proofs.Telling.{nearest-few, nearest-told}
+use Rattle.job.proofs.Texts.{puts_as}
+use Rattle.job.proofs.Telling.{nearest_few, nearest_told}
 use Rattle.job.proofs.modes.nearest_text.Statement.{statement}
 use Rattle.job.proofs.modes.nearest_text.Tie as tie
 
@@ -29,13 +29,13 @@ slice-aggregate-told-3 c = search rules
 
 told-requires : tie.Need-told-requires
 told-requires c κs =
-    let few = nearest-few _ _ _ _ c.before.before.before.before.before.before.before.nearest.ensures c.before.before.before.before.shown.ensures in
+    let few = nearest_few _ _ _ _ c.before.before.before.before.before.before.before.nearest.ensures c.before.before.before.before.shown.ensures in
     record {
       short = omega arith;
       few = few.0;
-      lefts-held = few.1;
-      rights-held = omega (arith, few.0);
-      distances-held = omega (arith, few.0);
+      lefts_held = few.1;
+      rights_held = omega (arith, few.0);
+      distances_held = omega (arith, few.0);
     }
 
 same_length : tie.Need-same-length
@@ -44,7 +44,7 @@ same_length c = search rules
 returns : tie.Need-returns
 returns c =
     let t = c.before.before.told.ensures in
-    record { put = puts-as (nearest-told _ _ _ _ c.before.before.before.before.before.before.before.before.before.before.nearest.ensures c.before.before.before.before.before.before.before.shown.ensures) t.put; bounded = t.bounded }
+    record { put = puts_as (nearest_told _ _ _ _ c.before.before.before.before.before.before.before.before.before.before.nearest.ensures c.before.before.before.before.before.before.before.shown.ensures) t.put; bounded = t.bounded }
 
 pub nearest-text-spec : {M : Type 1} → statement M
 nearest-text-spec =

@@ -1,8 +1,8 @@
 -- The rooms are as the call left them, and its lines are their first places. Assumes nothing.
 use native.Mathlib.Omega.{arith}
 use borrow.Author.Rules.{rules}
-use Rattle.job.proofs.Texts.{puts-as}
-use Rattle.job.proofs.Telling.{pairs-few, pairs-told}
+use Rattle.job.proofs.Texts.{puts_as}
+use Rattle.job.proofs.Telling.{pairs_few, pairs_told}
 use Rattle.job.proofs.modes.pairs_text.Statement.{statement}
 use Rattle.job.proofs.modes.pairs_text.Tie as tie
 
@@ -35,13 +35,13 @@ slice-aggregate-told-4 c = search rules
 
 told-requires : tie.Need-told-requires
 told-requires c κs =
-    let few = pairs-few _ _ _ _ _ _ _ c.before.before.before.before.before.before.before.before.before.pairs.ensures c.before.before.before.before.before.shown.ensures in
+    let few = pairs_few _ _ _ _ _ _ _ c.before.before.before.before.before.before.before.before.before.pairs.ensures c.before.before.before.before.before.shown.ensures in
     record {
       short = omega arith;
       few = few;
-      lefts-held = omega (arith, few);
-      rights-held = omega (arith, few);
-      distances-held = omega (arith, few);
+      lefts_held = omega (arith, few);
+      rights_held = omega (arith, few);
+      distances_held = omega (arith, few);
     }
 
 same_length : tie.Need-same-length
@@ -50,7 +50,7 @@ same_length c = search rules
 returns : tie.Need-returns
 returns c =
     let t = c.before.before.told.ensures in
-    record { put = puts-as (pairs-told _ _ _ _ _ _ _ c.before.before.before.before.before.before.before.before.before.before.before.before.pairs.ensures c.before.before.before.before.before.before.before.before.shown.ensures) t.put; bounded = t.bounded }
+    record { put = puts_as (pairs_told _ _ _ _ _ _ _ c.before.before.before.before.before.before.before.before.before.before.before.before.pairs.ensures c.before.before.before.before.before.before.before.before.shown.ensures) t.put; bounded = t.bounded }
 
 pub pairs-text-spec : {M : Type 1} → statement M
 pairs-text-spec =

@@ -3,7 +3,7 @@ use native.Mathlib.Omega.{arith}
 use borrow.Author.Rules.{rules}
 use Rattle.printing.specs.Putting.{puts_then}
 use Rattle.join.specs.Told.{answer_of}
-use Rattle.job.proofs.Texts.{text-refused, text-answered, puts-as}
+use Rattle.job.proofs.Texts.{text_refused, text_answered, puts_as}
 use Rattle.job.proofs.told.told.Statement.{statement}
 use Rattle.job.proofs.told.told.Tie as tie
 
@@ -18,7 +18,7 @@ returns c =
     let s = c.before.before.before.before.before.before.before.before.before.before.before in
     let r = c.before.before.refused.ensures in
     record {
-      put = puts-as (text-refused s.args.a.number s.args.kind.now (answer_of s.args.a) _ c.before.before.before.before.if1.true) r.0;
+      put = puts_as (text_refused s.args.a.number s.args.kind.now (answer_of s.args.a) _ c.before.before.before.before.if1.true) r.0;
       bounded = omega (arith, r.1);
     }
 
@@ -41,7 +41,7 @@ returns-2 c =
     let l = c.before.before.before.before.before.before.lines.ensures in
     let t = c.before.before.totals.ensures in
     record {
-      put = puts-as (text-answered s.args.a.number s.args.kind.now (answer_of s.args.a) _ c.before.before.before.before.before.before.before.before.before.before.before.before.if1.false) (puts_then (puts_then h.0 l.0) t.0);
+      put = puts_as (text_answered s.args.a.number s.args.kind.now (answer_of s.args.a) _ c.before.before.before.before.before.before.before.before.before.before.before.before.if1.false) (puts_then (puts_then h.0 l.0) t.0);
       bounded = omega (arith, h.1, l.1, t.1, s.requires.few);
     }
 

@@ -44,7 +44,7 @@ slice-aggregate-show c = search rules
 
 -- the record ends within the input, after its length
 within : (c : tie.After-end invariant-loop decreases-loop) → Ends c.before.before.before.before.loop.at (length c.before.before.before.before.before.before.args.s.now) (At c.end.given.0.0)
-within c = subst (Ends _ _) c.end.given.1 c.before.before.end_of_lem.ensures
+within c = subst (Ends _ _) c.end.given.1 c.before.before.end_of.ensures
 
 sub-show : tie.Need-overflow-sub-show invariant-loop decreases-loop
 sub-show c = omega (arith, within c.before.before)

@@ -25,7 +25,7 @@ returns c = search rules
 
 -- the record ends within the input, after its length
 within : (c : tie.After-end) → Ends 0 (length c.before.before.before.before.before.args.s.now) (At c.end.given.0.0)
-within c = subst (Ends 0 _) c.end.given.1 c.before.before.end_of_lem.ensures
+within c = subst (Ends 0 _) c.end.given.1 c.before.before.end_of.ensures
 
 sub-changed : tie.Need-overflow-sub-changed
 sub-changed c = omega (arith, within c.before)

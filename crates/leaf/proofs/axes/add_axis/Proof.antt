@@ -7,7 +7,7 @@ use native.Mathlib.Numerals.{add-one}
 use lib.ListN.{length, get_or, length-set}
 use lib.Ieee.{nan, add, binary64}
 use Rattle.leaf.specs.Sums.{Holds, grown}
-use Rattle.leaf.proofs.Growing.{place-next, place_after}
+use Rattle.leaf.proofs.Growing.{place_next, place_after}
 use borrow.Author.Rules.{rules}
 use Rattle.leaf.proofs.axes.add_axis.Statement.{statement}
 use Rattle.leaf.proofs.axes.add_axis.Tie as tie
@@ -54,7 +54,7 @@ loop-again c =
     let l = c.before.before.before.before.loop in
     let inside : l.j < length l.sums = omega arith in
     let value = ap₂ (add binary64) (l.invariant.4 l.j (le_refl l.j)) c.square.ensures in
-    (omega arith, simp length-set l.invariant.1, simp length-set l.invariant.2, rw (add-one l.j) (place-next l.sums l.j _ _ inside l.invariant.3 value), rw (add-one l.j) (place_after l.sums l.j _ c.before.before.before.before.before.before.before.args.sums.now l.invariant.4))
+    (omega arith, simp length-set l.invariant.1, simp length-set l.invariant.2, rw (add-one l.j) (place_next l.sums l.j _ _ inside l.invariant.3 value), rw (add-one l.j) (place_after l.sums l.j _ c.before.before.before.before.before.before.before.args.sums.now l.invariant.4))
 
 same_length : tie.Need-same-length invariant-loop decreases-loop
 same_length c = search rules

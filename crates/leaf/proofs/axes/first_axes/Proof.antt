@@ -9,7 +9,7 @@ use lib.Ieee.{nan}
 use Rattle.metric.specs.Lent.{HoldsPlace}
 use Rattle.metric.proofs.Laws.{inside}
 use Rattle.leaf.specs.Sums.{Holds, sum_to, TileOf}
-use Rattle.leaf.proofs.Growing.{tile-column, sum-none, first-axis, axis-next}
+use Rattle.leaf.proofs.Growing.{tile_column, sum_none, first_axis, axis_next}
 use borrow.Author.Rules.{rules}
 use Rattle.leaf.proofs.axes.first_axes.Statement.{statement}
 use Rattle.leaf.proofs.axes.first_axes.Tie as tie
@@ -26,7 +26,7 @@ returns c =
     let s = c.before.before.before in
     let one : s.args.k ≡ 1 = c.if1.true in
     let fresh = s.requires.fresh one in
-    ((λ j l. fresh j (omega (arith, s.requires.tile.narrow)) ∙ sym (rw one (sum-none s.args.pcoords.now s.args.pn s.args.p s.args.coords.now s.args.n s.args.a j))), λ e. fresh)
+    ((λ j l. fresh j (omega (arith, s.requires.tile.narrow)) ∙ sym (rw one (sum_none s.args.pcoords.now s.args.pn s.args.p s.args.coords.now s.args.n s.args.a j))), λ e. fresh)
 
 mul-set-axis : tie.Need-overflow-mul-set-axis invariant-loop decreases-loop
 mul-set-axis c = search rules
@@ -34,12 +34,12 @@ mul-set-axis c = search rules
 shared-slice-read-set-axis : tie.Need-shared-slice-read-set-axis invariant-loop decreases-loop
 shared-slice-read-set-axis c =
     let s = c.before.before.before.before.before in
-    rw (zero-mul, zero-add) at (inside s.requires.point 0 s.requires.some-axes)
+    rw (zero-mul, zero-add) at (inside s.requires.point 0 s.requires.some_axes)
 
 tile-requires : tie.Need-tile-requires invariant-loop decreases-loop
 tile-requires c κs =
     let s = c.before.before.before.before.before in
-    tile-column s.requires.few-axes s.requires.tile 0 s.requires.some-axes
+    tile_column s.requires.few_axes s.requires.tile 0 s.requires.some_axes
 
 set-axis-requires : tie.Need-set-axis-requires invariant-loop decreases-loop
 set-axis-requires c κs = search rules
@@ -49,7 +49,7 @@ loop-holds c =
     let s = c.before.before.before.before.before.before.before in
     let a = s.args in
     let more : 1 < a.k = omega arith in
-    (more, more, s.requires.few-axes, s.requires.point-small, s.requires.point, s.requires.tile, first-axis a.pcoords.now a.pn a.p a.coords.now a.n a.a (a.e - a.a) c.set-axis.new.0 _ c.before.tile.ensures.0 c.before.tile.ensures.1 c.set-axis.ensures)
+    (more, more, s.requires.few_axes, s.requires.point_small, s.requires.point, s.requires.tile, first_axis a.pcoords.now a.pn a.p a.coords.now a.n a.a (a.e - a.a) c.set-axis.new.0 _ c.before.tile.ensures.0 c.before.tile.ensures.1 c.set-axis.ensures)
 
 sub-loop : tie.Need-overflow-sub-loop invariant-loop decreases-loop
 sub-loop c = omega arith
@@ -73,7 +73,7 @@ shared-slice-read-add-axis c = read c.before.before
 tile-requires-2 : tie.Need-tile-requires-2 invariant-loop decreases-loop
 tile-requires-2 c κs =
     let l = c.before.before.before.loop in
-    tile-column l.invariant.2 l.invariant.5 l.d l.invariant.0
+    tile_column l.invariant.2 l.invariant.5 l.d l.invariant.0
 
 add-axis-requires : tie.Need-add-axis-requires invariant-loop decreases-loop
 add-axis-requires c κs = search rules
@@ -88,7 +88,7 @@ loop-again : tie.Need-loop-preserved invariant-loop decreases-loop
 loop-again c =
     let l = c.before.before.before.before.before.loop in
     let a = c.before.before.before.before.before.before.before.before.before.before.before.before.before.args in
-    (omega arith, l.invariant.1, l.invariant.2, l.invariant.3, l.invariant.4, l.invariant.5, rw (add-one l.d) (axis-next a.pcoords.now a.pn a.p a.coords.now a.n a.a l.d (a.e - a.a) (λ j. get_or l.sums j nan) _ c.add-axis.new.0 _ l.invariant.6 refl c.before.tile2.ensures.0 c.before.tile2.ensures.1 c.add-axis.ensures))
+    (omega arith, l.invariant.1, l.invariant.2, l.invariant.3, l.invariant.4, l.invariant.5, rw (add-one l.d) (axis_next a.pcoords.now a.pn a.p a.coords.now a.n a.a l.d (a.e - a.a) (λ j. get_or l.sums j nan) _ c.add-axis.new.0 _ l.invariant.6 refl c.before.tile2.ensures.0 c.before.tile2.ensures.1 c.add-axis.ensures))
 
 returns-2 : tie.Need-returns-2 invariant-loop decreases-loop
 returns-2 c =

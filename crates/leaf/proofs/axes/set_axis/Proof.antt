@@ -8,7 +8,7 @@ use lib.ListN.{length, get_or, length-set}
 use lib.Ieee.{nan, of_bits, add, binary64}
 use Rattle.rounding.specs.Distance.{zero₊}
 use Rattle.leaf.specs.Sums.{Holds, grown}
-use Rattle.leaf.proofs.Growing.{place-next}
+use Rattle.leaf.proofs.Growing.{place_next}
 use borrow.Author.Rules.{rules}
 use Rattle.leaf.proofs.axes.set_axis.Statement.{statement}
 use Rattle.leaf.proofs.axes.set_axis.Tie as tie
@@ -49,7 +49,7 @@ unfolding of_bits
 loop-again c =
     let l = c.before.before.before.loop in
     let inside : l.j < length l.sums = omega arith in
-    (omega arith, simp length-set l.invariant.1, simp length-set l.invariant.2, rw (add-one l.j) (place-next l.sums l.j _ _ inside l.invariant.3 (ap (add binary64 zero₊) c.square.ensures)))
+    (omega arith, simp length-set l.invariant.1, simp length-set l.invariant.2, rw (add-one l.j) (place_next l.sums l.j _ _ inside l.invariant.3 (ap (add binary64 zero₊) c.square.ensures)))
 
 same_length : tie.Need-same-length invariant-loop decreases-loop
 same_length c = search rules

@@ -10,9 +10,9 @@ use lib.Ieee.{Float, nan, add, binary64}
 use Rattle.written.specs.Boxes.{passes}
 use Rattle.metric.specs.Edges.{edge_of}
 use Rattle.leaf.specs.Sums.{Holds, reached, passing, hits}
-use Rattle.leaf.proofs.Growing.{place-next}
+use Rattle.leaf.proofs.Growing.{place_next}
 use Rattle.leaf.proofs.Hits.{hits_next}
-use Rattle.rooms.proofs.Places.{next-few}
+use Rattle.rooms.proofs.Places.{next_few}
 use borrow.Author.Rules.{rules}
 use Rattle.leafpairs.proofs.point.last_axis.Statement.{statement}
 use Rattle.leafpairs.proofs.point.last_axis.Tie as tie
@@ -59,7 +59,7 @@ passes-requires : tie.Need-passes-requires invariant-loop decreases-loop
 passes-requires c κs = search rules
 
 add-n : tie.Need-overflow-add-n invariant-loop decreases-loop
-add-n c = omega (arith, next-few _ c.before.before.before.before.before.loop.j c.before.before.before.before.before.loop.invariant.5 (bit c))
+add-n c = omega (arith, next_few _ c.before.before.before.before.before.loop.j c.before.before.before.before.before.loop.invariant.5 (bit c))
 
 add-j : tie.Need-overflow-add-j invariant-loop decreases-loop
 add-j c = search rules
@@ -78,7 +78,7 @@ loop-again c =
       omega arith,
       simp length-set u.invariant.2,
       simp length-set u.invariant.3,
-      rw (add-one u.j) (place-next u.dists u.j _ f inside u.invariant.4 (ap (add binary64 (get_or a.sums.now u.j nan)) square)),
+      rw (add-one u.j) (place_next u.dists u.j _ f inside u.invariant.4 (ap (add binary64 (get_or a.sums.now u.j nan)) square)),
       hits_next (passing (edge_of a.under) a.radius f) u.j u.invariant.5 (bit c),
     )
 

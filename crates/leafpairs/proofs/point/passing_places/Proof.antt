@@ -7,7 +7,7 @@ use Rattle.metric.specs.Edges.{edge_of}
 use Rattle.leaf.specs.Sums.{row, passing, hits}
 use Rattle.leaf.proofs.Hits.{hits_next}
 use Rattle.rooms.specs.Emitted.{places_of}
-use Rattle.rooms.proofs.Places.{found-few, next-few, places-next}
+use Rattle.rooms.proofs.Places.{found_few, next_few, places_next}
 use borrow.Author.Rules.{rules}
 use Rattle.leafpairs.proofs.point.passing_places.Statement.{statement}
 use Rattle.leafpairs.proofs.point.passing_places.Tie as tie
@@ -26,10 +26,10 @@ cast-places : tie.Need-overflow-cast-places invariant-loop decreases-loop
 cast-places c = search rules
 
 mul-places : tie.Need-overflow-mul-places invariant-loop decreases-loop
-mul-places c = omega (arith, found-few _ c.before.loop.j c.before.loop.invariant.4)
+mul-places c = omega (arith, found_few _ c.before.loop.j c.before.loop.invariant.4)
 
 slice-write-places : tie.Need-slice-write-places invariant-loop decreases-loop
-slice-write-places c = omega (arith, found-few _ c.before.loop.j c.before.loop.invariant.4)
+slice-write-places c = omega (arith, found_few _ c.before.loop.j c.before.loop.invariant.4)
 
 mul-passes : tie.Need-overflow-mul-passes invariant-loop decreases-loop
 mul-passes c = search rules
@@ -41,7 +41,7 @@ passes-requires : tie.Need-passes-requires invariant-loop decreases-loop
 passes-requires c κs = search rules
 
 add-n : tie.Need-overflow-add-n invariant-loop decreases-loop
-add-n c = omega (arith, next-few _ c.before.before.before.loop.j c.before.before.before.loop.invariant.4 c.passes.ensures)
+add-n c = omega (arith, next_few _ c.before.before.before.loop.j c.before.before.before.loop.invariant.4 c.passes.ensures)
 
 add-j : tie.Need-overflow-add-j invariant-loop decreases-loop
 add-j c = search rules
@@ -59,7 +59,7 @@ loop-again c =
       simp length-set u.invariant.2,
       simp length-set u.invariant.3,
       hits_next test u.j u.invariant.4 c.passes.ensures,
-      places-next test u.places u.n u.j (omega (arith, found-few test u.j u.invariant.4)) c.passes.ensures u.invariant.5,
+      places_next test u.places u.n u.j (omega (arith, found_few test u.j u.invariant.4)) c.passes.ensures u.invariant.5,
     )
 
 same_length : tie.Need-same-length invariant-loop decreases-loop

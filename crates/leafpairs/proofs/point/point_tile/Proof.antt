@@ -8,12 +8,12 @@ use lib.Ieee.{Float, nan}
 use Rattle.metric.specs.Edges.{edge_of}
 use Rattle.metric.proofs.Laws.{inside}
 use Rattle.leaf.specs.Sums.{Holds, TileOf, sum_to, row, reached, passing, hits}
-use Rattle.leaf.specs.Kept.{keeps, ofPoint}
-use Rattle.leaf.proofs.Growing.{tile-column}
+use Rattle.leaf.specs.Kept.{keeps, of_point}
+use Rattle.leaf.proofs.Growing.{tile_column}
 use Rattle.rooms.specs.Rooms.{filling, puts}
-use Rattle.rooms.specs.Emitted.{places_of, placesBelow, pairsAt, Emits}
+use Rattle.rooms.specs.Emitted.{places_of, places_below, pairs_at, Emits}
 use Rattle.rooms.proofs.Places.{none_pass, all_pass}
-use Rattle.leafpairs.proofs.Points.{hits-row, part-size, measured, point-puts, point-emits}
+use Rattle.leafpairs.proofs.Points.{hits_row, part_size, measured, point_puts, point_emits}
 use borrow.Author.Rules.{rules}
 use Rattle.leafpairs.proofs.point.point_tile.Statement.{statement}
 use Rattle.leafpairs.proofs.point.point_tile.Tie as tie
@@ -27,7 +27,7 @@ start c = c.before.before.before.before.before.before.before.before.before
 point-inside : (c : tie.After-first-axes) → let a = (start c).args in (a.k - 1) * length a.litems.now + a.p < length a.lcoords.now
 point-inside c =
     let s = start c in
-    inside s.pre.0.point (s.args.k - 1) (omega (arith, s.pre.0.some-axes))
+    inside s.pre.0.point (s.args.k - 1) (omega (arith, s.pre.0.some_axes))
 
 abbrev axes : tie.After-last-axis → tie.After-first-axes
 axes c = c.before.before.before.before.before
@@ -39,25 +39,25 @@ tiled : (c : tie.After-last-axis) → let a = (start (axes c)).args in TileOf a.
 tiled c = (start (axes c)).requires.0.tile
 
 abbrev distances : tie.After-last-axis → List Float
-distances c = c.last-axis.new.1.1.1.1.1.0
+distances c = c.last_axis.new.1.1.1.1.1.0
 
 held : (c : tie.After-last-axis) → let a = (start (axes c)).args in Holds (distances c) (a.re - a.ra) (sum_to a.lcoords.now (length a.litems.now) a.p a.rcoords.now (length a.ritems.now) a.ra a.k)
 held c =
     let s = start (axes c) in
     let a = s.args in
     let tile = c.before.before.tile in
-    measured a.k a.litems.now a.lcoords.now a.p a.ritems.now a.rcoords.now a.ra (a.re - a.ra) (axes c).first-axes.new.0 (distances c) tile.result.now s.pre.0.some-axes (axes c).first-axes.ensures.0 tile.ensures.0 tile.ensures.1 c.last-axis.ensures.0
+    measured a.k a.litems.now a.lcoords.now a.p a.ritems.now a.rcoords.now a.ra (a.re - a.ra) (axes c).first-axes.new.0 (distances c) tile.result.now s.pre.0.some_axes (axes c).first-axes.ensures.0 tile.ensures.0 tile.ensures.1 c.last_axis.ensures.0
 
-many : (c : tie.After-last-axis) → let a = (start (axes c)).args in c.last-axis.result ≡ hits (passing (edge_of a.under) a.radius (row (distances c))) (a.re - a.ra)
+many : (c : tie.After-last-axis) → let a = (start (axes c)).args in c.last_axis.result ≡ hits (passing (edge_of a.under) a.radius (row (distances c))) (a.re - a.ra)
 many c =
     let a = (start (axes c)).args in
     let tile = c.before.before.tile in
-    hits-row (edge_of a.under) a.radius (distances c) (reached (axes c).first-axes.new.0 (get_or a.lcoords.now ((a.k - 1) * length a.litems.now + a.p) nan) tile.result.now) (a.re - a.ra) (length tile.result.now) tile.ensures.1 c.last-axis.ensures.0 c.last-axis.ensures.1
+    hits_row (edge_of a.under) a.radius (distances c) (reached (axes c).first-axes.new.0 (get_or a.lcoords.now ((a.k - 1) * length a.litems.now + a.p) nan) tile.result.now) (a.re - a.ra) (length tile.result.now) tile.ensures.1 c.last_axis.ensures.0 c.last_axis.ensures.1
 
 size : (c : tie.After-last-axis) → let a = (start (axes c)).args in length (part c) ≡ a.re - a.ra
 size c =
     let s = start (axes c) in
-    part-size s.args.ritems.now s.args.ra s.args.re s.pre.0.tile.rising s.pre.0.tile.inside
+    part_size s.args.ritems.now s.args.ra s.args.re s.pre.0.tile.rising s.pre.0.tile.inside
 
 -- ---- the three ways out: a list of the places that pass
 
@@ -67,23 +67,23 @@ Passing c l = let a = (start (axes c)).args in l ≡ places_of (passing (edge_of
 stored : (c : tie.After-last-axis) (l : List ℕ) → Passing c l
     → let a = (start (axes c)).args in
     let s = filling a.found a.lout.now a.rout.now a.dout.now in
-    puts s (pairsAt (distances c) (get_or a.litems.now a.p 0) (part c) l) ≡ puts s (ofPoint (keeps a.k a.radius a.under a.litems.now a.lcoords.now a.ritems.now a.rcoords.now) a.p a.ra a.re)
+    puts s (pairs_at (distances c) (get_or a.litems.now a.p 0) (part c) l) ≡ puts s (of_point (keeps a.k a.radius a.under a.litems.now a.lcoords.now a.ritems.now a.rcoords.now) a.p a.ra a.re)
 stored c l e =
     let a = (start (axes c)).args in
-    point-puts a.k a.litems.now a.lcoords.now a.p a.ritems.now a.rcoords.now a.ra a.radius a.under a.re (distances c) (held c) (filling a.found a.lout.now a.rout.now a.dout.now) l e
+    point_puts a.k a.litems.now a.lcoords.now a.p a.ritems.now a.rcoords.now a.ra a.radius a.under a.re (distances c) (held c) (filling a.found a.lout.now a.rout.now a.dout.now) l e
 
-emits : (c : tie.After-last-axis) (m : ℕ) (l : List ℕ) → c.last-axis.result ≡ m → Passing c l → Emits l m (part c) (start (axes c)).args.found
+emits : (c : tie.After-last-axis) (m : ℕ) (l : List ℕ) → c.last_axis.result ≡ m → Passing c l → Emits l m (part c) (start (axes c)).args.found
 emits c m l is e =
     let s = start (axes c) in
     let a = s.args in
-    point-emits a.k a.litems.now a.lcoords.now a.p a.ritems.now a.rcoords.now a.ra a.radius a.under a.re (distances c) (held c) a.found m l (part c) e (sym is ∙ many c) (size c) (omega (arith, s.pre.0.tile.narrow)) s.pre.1.1
+    point_emits a.k a.litems.now a.lcoords.now a.p a.ritems.now a.rcoords.now a.ra a.radius a.under a.re (distances c) (held c) a.found m l (part c) e (sym is ∙ many c) (size c) (omega (arith, s.pre.0.tile.narrow)) s.pre.1.1
 
-whole : (c : tie.Then2) → Passing c.before.before.before.before (placesBelow (length (part c.before.before.before.before)))
+whole : (c : tie.Then2) → Passing c.before.before.before.before (places_below (length (part c.before.before.before.before)))
 whole c =
     let up = c.before.before.before.before in
     rw (size up) (sym (all_pass _ _ (sym (many up) ∙ c.if2.true ∙ size up)))
 
-found-places : (c : tie.After-passing-places) → Passing c.before.before.before.before.before.before.before (take c.before.before.before.before.before.before.before.last-axis.result c.passing-places.new.1.1.1.1.0)
+found-places : (c : tie.After-passing-places) → Passing c.before.before.before.before.before.before.before (take c.before.before.before.before.before.before.before.last_axis.result c.passing-places.new.1.1.1.1.0)
 found-places c =
     let up = c.before.before.before.before.before.before.before in
     ap (λ (m : ℕ). take m c.passing-places.new.1.1.1.1.0) (many up) ∙ (rw (size up) at c.passing-places.ensures)
@@ -109,7 +109,7 @@ shared-slice-read-last-axis c = point-inside c.before.before
 tile-requires : tie.Need-tile-requires
 tile-requires c κs =
     let s = start c.before.before in
-    tile-column s.pre.0.few-axes s.pre.0.tile (s.args.k - 1) (omega (arith, s.pre.0.some-axes))
+    tile_column s.pre.0.few_axes s.pre.0.tile (s.args.k - 1) (omega (arith, s.pre.0.some_axes))
 
 last-axis-requires : tie.Need-last-axis-requires
 last-axis-requires c κs = search rules

@@ -1,6 +1,6 @@
 -- Four texts, one after the other. Assumes nothing.
 use native.Mathlib.Omega.{arith}
-use Rattle.printing.specs.Text.{firstLine}
+use Rattle.printing.specs.Text.{first_line}
 use Rattle.printing.specs.Putting.{puts_then}
 use borrow.Author.Rules.{rules}
 use Rattle.printing.proofs.answer.head.Statement.{statement}
@@ -28,7 +28,7 @@ same_length : tie.Need-same-length
 same_length c = search rules
 
 returns : tie.Need-returns
-unfolding firstLine
+unfolding first_line
 returns c =
     let end = c.before.before in
     let number = end.before.before.before.before.before in

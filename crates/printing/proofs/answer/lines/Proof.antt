@@ -10,7 +10,7 @@ use Rattle.written.specs.RadiusWalk.{Found}
 use Rattle.printing.specs.Text.{line, lines}
 use Rattle.printing.specs.Rows.{found, rows}
 use Rattle.printing.specs.Puts.{Puts}
-use Rattle.printing.specs.Putting.{puts-nothing, puts_then, puts-length}
+use Rattle.printing.specs.Putting.{puts_nothing, puts_then, puts_length}
 use Rattle.printing.proofs.answer.lines.Statement.{statement}
 use Rattle.printing.proofs.answer.lines.Tie as tie
 
@@ -41,7 +41,7 @@ loop-holds : tie.Need-loop-init invariant-loop decreases-loop
 loop-holds c =
     let s = c.before.before.before.before in
     let a = s.args in
-    (omega arith, omega arith, s.requires, subst (λ (t : List ℕ). Puts a.out.now a.at t a.out.now a.at) (rows_none a.lefts.now a.rights.now a.distances.now) puts-nothing)
+    (omega arith, omega arith, s.requires, subst (λ (t : List ℕ). Puts a.out.now a.at t a.out.now a.at) (rows_none a.lefts.now a.rights.now a.distances.now) puts_nothing)
 
 mul-line : tie.Need-overflow-mul-line invariant-loop decreases-loop
 mul-line c = omega arith
@@ -78,7 +78,7 @@ loop-again c =
     (omega (arith, c.before.before.before.before.before.before.before.loop-test.true), omega (arith, u.invariant.1, l.ensures.1), u.invariant.2, subst (λ (t : List ℕ). Puts a.out.now a.at t l.new.0 l.result) (sym (rows_more u.i a.lefts.now a.rights.now a.distances.now)) (puts_then u.invariant.3 l.ensures.0))
 
 same_length : tie.Need-same-length invariant-loop decreases-loop
-same_length c = puts-length c.before.loop.invariant.3
+same_length c = puts_length c.before.loop.invariant.3
 
 returns : tie.Need-returns invariant-loop decreases-loop
 returns c =

@@ -1,6 +1,6 @@
 -- Five texts, one after the other. Assumes nothing.
 use native.Mathlib.Omega.{arith}
-use Rattle.printing.specs.Text.{refusedLine}
+use Rattle.printing.specs.Text.{refused_line}
 use Rattle.printing.specs.Putting.{puts_then}
 use borrow.Author.Rules.{rules}
 use Rattle.printing.proofs.answer.refused.Statement.{statement}
@@ -34,7 +34,7 @@ same_length : tie.Need-same-length
 same_length c = search rules
 
 returns : tie.Need-returns
-unfolding refusedLine
+unfolding refused_line
 returns c =
     let end = c.before.before in
     let side = end.before.before.before.before.before in

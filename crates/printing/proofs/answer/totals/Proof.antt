@@ -1,10 +1,10 @@
 -- Nine texts, one after the other. Assumes nothing.
 use Prim.Native.Nat.{◌+◌, ◌≤◌}
 use native.Mathlib.Omega.{arith}
-use Rattle.printing.specs.Text.{totalsLine}
+use Rattle.printing.specs.Text.{totals_line}
 use Rattle.printing.specs.Rows.{totalled}
 use Rattle.printing.specs.Puts.{Puts}
-use Rattle.printing.specs.Putting.{puts_then, puts-length}
+use Rattle.printing.specs.Putting.{puts_then, puts_length}
 use borrow.Author.Rules.{rules}
 use Rattle.printing.proofs.answer.totals.Statement.{statement}
 use Rattle.printing.proofs.answer.totals.Tie as tie
@@ -34,8 +34,8 @@ before-fourth c = c.before.before.before.before
 
 -- ---- what is put, and how far it goes: d for a number, t for the word before it
 
-put : (c : tie.After-text5) → let a = (start (before-fourth (fourth c))).args in Puts a.out.now a.at (totalsLine (totalled a.visits a.decreases a.ruled a.whole)) c.text5.new.0 c.text5.result
-unfolding totalsLine
+put : (c : tie.After-text5) → let a = (start (before-fourth (fourth c))).args in Puts a.out.now a.at (totals_line (totalled a.visits a.decreases a.ruled a.whole)) c.text5.new.0 c.text5.result
+unfolding totals_line
 put c =
     let d4 = fourth c in
     let t4 = before-fourth d4 in
@@ -103,7 +103,7 @@ text-requires-5 c κs =
     omega (arith, d.decimal4.ensures.1, reach t, (start t).pre)
 
 same_length : tie.Need-same-length
-same_length c = puts-length (put c.before.before)
+same_length c = puts_length (put c.before.before)
 
 returns : tie.Need-returns
 returns c =

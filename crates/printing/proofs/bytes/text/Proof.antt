@@ -8,7 +8,7 @@ use borrow.Author.Rules.{rules}
 use lib.ListN.{length, take, set, get_or}
 use lib.Seq.{take-suc, take_all}
 use Rattle.printing.specs.Puts.{Puts}
-use Rattle.printing.specs.Putting.{puts_one, puts_then, puts-length}
+use Rattle.printing.specs.Putting.{puts_one, puts_then, puts_length}
 use Rattle.printing.proofs.bytes.text.Statement.{statement}
 use Rattle.printing.proofs.bytes.text.Tie as tie
 
@@ -54,7 +54,7 @@ add-result : tie.Need-overflow-add-result invariant-loop decreases-loop
 add-result c = omega arith
 
 same_length : tie.Need-same-length invariant-loop decreases-loop
-same_length c = puts-length c.before.loop.invariant.2
+same_length c = puts_length c.before.loop.invariant.2
 
 returns : tie.Need-returns invariant-loop decreases-loop
 returns c =

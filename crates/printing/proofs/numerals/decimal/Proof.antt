@@ -4,7 +4,7 @@ use mathlib.Core.List.{List}
 use Prim.Native.Nat.{ℕ, ◌≤◌, ◌<◌, ◌^◌}
 use native.Mathlib.Omega.{arith}
 use Rattle.printing.specs.Puts.{Puts}
-use Rattle.printing.specs.Places.{at_most, fewest-decimal}
+use Rattle.printing.specs.Places.{at_most, fewest_decimal}
 use borrow.Author.Rules.{rules}
 use Rattle.printing.proofs.numerals.decimal.Statement.{statement}
 use Rattle.printing.proofs.numerals.decimal.Tie as tie
@@ -35,7 +35,7 @@ returns c =
     let t = c.before.before.text in
     let d = c.before.before.before.before.before in
     let a = d.before.before.before.args in
-    (subst (λ (x : List ℕ). Puts a.out.now a.at x t.new.0 t.result) (d.decimal.ensures.1.1 ∙ fewest-decimal a.n d.decimal.result d.decimal.ensures.1.0) t.ensures, omega (arith, t.ensures.counted, short d, d.decimal.ensures.0))
+    (subst (λ (x : List ℕ). Puts a.out.now a.at x t.new.0 t.result) (d.decimal.ensures.1.1 ∙ fewest_decimal a.n d.decimal.result d.decimal.ensures.1.0) t.ensures, omega (arith, t.ensures.counted, short d, d.decimal.ensures.0))
 
 pub decimal-spec : {M : Type 1} → statement M
 decimal-spec =

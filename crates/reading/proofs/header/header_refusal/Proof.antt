@@ -10,7 +10,7 @@ use lib.Dec.{leb}
 use lib.ListN.{length}
 use Rattle.written.specs.Laws.Tests.{refused, granted, both, at_most}
 use Rattle.reading.specs.Little.{number16}
-use Rattle.reading.specs.Header.{sizeOk, markOk, versionOk, modeOk, axesOk, headerRefusal}
+use Rattle.reading.specs.Header.{size_ok, mark_ok, version_ok, mode_ok, axes_ok, header_refusal}
 use Rattle.reading.proofs.header.header_refusal.Statement.{statement}
 use Rattle.reading.proofs.header.header_refusal.Tie as tie
 
@@ -34,19 +34,19 @@ abbrev job : tie.Start → List ℕ
 job c = c.args.s.now
 
 -- ---- the rules kept so far
-kept₁ : (c : tie.Else1) → sizeOk (job (up₁ c)) ≡ true
+kept₁ : (c : tie.Else1) → size_ok (job (up₁ c)) ≡ true
 kept₁ c = granted c.before.Size-ok.ensures c.if1.false
 
-kept₂ : (c : tie.Else2) → markOk (job (up₁ (up₂ c))) ≡ true
+kept₂ : (c : tie.Else2) → mark_ok (job (up₁ (up₂ c))) ≡ true
 kept₂ c = granted c.before.mark-ok.ensures c.if2.false
 
-kept₃ : (c : tie.Else3) → versionOk (job (up₁ (up₂ (up₃ c)))) ≡ true
+kept₃ : (c : tie.Else3) → version_ok (job (up₁ (up₂ (up₃ c)))) ≡ true
 kept₃ c = eq-eqb _ 1 (sym c.before.u16-at.ensures ∙ c.if3.false)
 
-kept₄ : (c : tie.Else4) → modeOk (job (up₁ (up₂ (up₃ (up₄ c))))) ≡ true
+kept₄ : (c : tie.Else4) → mode_ok (job (up₁ (up₂ (up₃ (up₄ c))))) ≡ true
 kept₄ c = granted c.before.mode-ok.ensures c.if4.false
 
-kept₅ : (c : tie.Else5) → axesOk (job (up₁ (up₂ (up₃ (up₄ (up₅ c)))))) ≡ true
+kept₅ : (c : tie.Else5) → axes_ok (job (up₁ (up₂ (up₃ (up₄ (up₅ c)))))) ≡ true
 kept₅ c = granted c.before.axes-ok.ensures c.if5.false
 
 -- so there are 16 bytes
@@ -58,21 +58,21 @@ size-ok-requires : tie.Need-size-ok-requires
 size-ok-requires c κs = search rules
 
 returns : tie.Need-returns
-unfolding headerRefusal
+unfolding header_refusal
 returns c = rw (refused c.before.Size-ok.ensures c.if1.true)
 
 mark-ok-requires : tie.Need-mark-ok-requires
 mark-ok-requires c κs = sixteen c
 
 returns-2 : tie.Need-returns-2
-unfolding headerRefusal
+unfolding header_refusal
 returns-2 c = rw (kept₁ c.before.before, refused c.before.mark-ok.ensures c.if2.true)
 
 u16-at-requires : tie.Need-u16-at-requires
 u16-at-requires c κs = omega (arith, sixteen (up₂ c))
 
 returns-3 : tie.Need-returns-3
-unfolding headerRefusal
+unfolding header_refusal
 returns-3 c =
     let p = c.before.before in
     let s = job (up₁ (up₂ p)) in
@@ -82,7 +82,7 @@ mode-ok-requires : tie.Need-mode-ok-requires
 mode-ok-requires c κs = sixteen (up₂ (up₃ c))
 
 returns-4 : tie.Need-returns-4
-unfolding headerRefusal
+unfolding header_refusal
 returns-4 c =
     let p = c.before.before in
     rw (kept₁ (up₂ (up₃ p)), kept₂ (up₃ p), kept₃ p, refused c.before.mode-ok.ensures c.if4.true)
@@ -91,13 +91,13 @@ axes-ok-requires : tie.Need-axes-ok-requires
 axes-ok-requires c κs = sixteen (up₂ (up₃ (up₄ c)))
 
 returns-5 : tie.Need-returns-5
-unfolding headerRefusal
+unfolding header_refusal
 returns-5 c =
     let p = c.before.before in
     rw (kept₁ (up₂ (up₃ (up₄ p))), kept₂ (up₃ (up₄ p)), kept₃ (up₄ p), kept₄ p, refused c.before.axes-ok.ensures c.if5.true)
 
 returns-6 : tie.Need-returns-6
-unfolding headerRefusal
+unfolding header_refusal
 returns-6 c =
     let p = up₅ c in
     rw (kept₁ (up₂ (up₃ (up₄ p))), kept₂ (up₃ (up₄ p)), kept₃ (up₄ p), kept₄ p, kept₅ c)

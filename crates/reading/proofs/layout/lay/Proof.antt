@@ -3,9 +3,9 @@ use mathlib.Core.Path.{◌≡◌, refl, ap, ◌∙◌}
 use Prim.Native.Nat.{ℕ, ◌*◌, ◌≤◌}
 use native.Mathlib.Omega.{arith}
 use borrow.Author.Rules.{rules}
-use Rattle.written.specs.LentTree.{stemCount}
-use Rattle.reading.specs.Trees.{leafCount, pointCount}
-use Rattle.reading.proofs.Fitting.{no-counts, too_long, fitting, few-stems}
+use Rattle.written.specs.LentTree.{stem_count}
+use Rattle.reading.specs.Trees.{leaf_count, point_count}
+use Rattle.reading.proofs.Fitting.{no_counts, too_long, fitting, few_stems}
 use Rattle.reading.proofs.layout.lay.Statement.{statement}
 use Rattle.reading.proofs.layout.lay.Tie as tie
 
@@ -15,7 +15,7 @@ add-if1 c = search rules
 returns : tie.Need-returns
 returns c =
     let start = c.before.before.args in
-    no-counts start.k start.s.now start.at c.if1.true
+    no_counts start.k start.s.now start.at c.if1.true
 
 u32-at-requires : tie.Need-u32-at-requires
 u32-at-requires c κs = search rules
@@ -53,7 +53,7 @@ stem-count-requires : tie.Need-stem-count-requires
 stem-count-requires c κs = search rules
 
 few : (c : tie.After-stem-count) → c.stem-count.result ≤ 4096
-few c = omega (arith, few-stems c.before.before.before.u32-at.result (omega arith))
+few c = omega (arith, few_stems c.before.before.before.u32-at.result (omega arith))
 
 mul-items : tie.Need-overflow-mul-items
 mul-items c = omega (arith, few c)
@@ -81,34 +81,34 @@ begun c = c.before.before.before.before.before.before.before
 
 -- the numbers of stems and coordinates, as the definitions have them
 module _ (c : tie.After-coord-count) where
-  stems-are : c.before.stem-count.result ≡ stemCount (leafCount (begun c).args.s.now (begun c).args.at)
-  stems-are = c.before.stem-count.ensures ∙ ap stemCount c.before.before.before.before.u32-at.ensures
+  stems_are : c.before.stem-count.result ≡ stem_count (leaf_count (begun c).args.s.now (begun c).args.at)
+  stems_are = c.before.stem-count.ensures ∙ ap stem_count c.before.before.before.before.u32-at.ensures
 
-  columns-are : c.coord-count.result ≡ (begun c).args.k * pointCount (begun c).args.s.now (begun c).args.at
+  columns-are : c.coord-count.result ≡ (begun c).args.k * point_count (begun c).args.s.now (begun c).args.at
   columns-are = c.coord-count.ensures.0 ∙ ap (λ (n : ℕ). (begun c).args.k * n) c.before.before.u32-at2.ensures
 
 returns-3 : tie.Need-returns-3
 returns-3 c =
     let start = (begun c.before).args in
-    let stems = stems-are c.before in
+    let stems = stems_are c.before in
     let columns = columns-are c.before in
     too_long start.k start.s.now start.at (omega arith)
 
 returns-4 : tie.Need-returns-4
 returns-4 c =
     let start = (begun c.before).args in
-    let stems = stems-are c.before in
+    let stems = stems_are c.before in
     let columns = columns-are c.before in
     record {
-      starts-at = refl;
-      stems-at = omega arith;
-      items_at = omega arith;
-      coords-at = omega arith;
-      end-at = omega arith;
-      starts-number = omega arith;
-      stems-number = stems;
-      items-number = c.before.before.before.u32-at2.ensures;
-      coords-number = columns;
+      starts_lie = refl;
+      stems_lie = omega arith;
+      items_lie = omega arith;
+      coords_lie = omega arith;
+      end_lies = omega arith;
+      starts_number = omega arith;
+      stems_number = stems;
+      items_number = c.before.before.before.u32-at2.ensures;
+      coords_number = columns;
       fits = fitting start.k start.s.now start.at (omega arith) (omega arith);
     }
 

@@ -29,52 +29,52 @@ f64-at-requires : tie.Need-f64-at-requires
 f64-at-requires c κs = search rules
 
 array-share-prefix-lstarts : tie.Need-array-share-prefix-lstarts
-array-share-prefix-lstarts c = within c.before.before.before.before.before.before.before.tree.ensures.starts-length c.before.before.before.before.before.before.before.before.before.before.before.before.before.before.before.requires.1.2.lstarts
+array-share-prefix-lstarts c = within c.before.before.before.before.before.before.before.tree.ensures.starts_length c.before.before.before.before.before.before.before.before.before.before.before.before.before.before.before.requires.1.2.lstarts
 
 slice-aggregate-called : tie.Need-slice-aggregate-called
-slice-aggregate-called c = counts _ _ c.before.before.before.before.before.before.before.before.tree.ensures.starts-length c.before.before.before.before.before.before.before.before.before.before.before.before.before.before.before.before.requires.1.2.lstarts
+slice-aggregate-called c = counts _ _ c.before.before.before.before.before.before.before.before.tree.ensures.starts_length c.before.before.before.before.before.before.before.before.before.before.before.before.before.before.before.before.requires.1.2.lstarts
 
 array-share-prefix-lstems : tie.Need-array-share-prefix-lstems
-array-share-prefix-lstems c = within c.before.before.before.before.before.before.before.before.tree.ensures.stems-length c.before.before.before.before.before.before.before.before.before.before.before.before.before.before.before.before.requires.1.2.lstems
+array-share-prefix-lstems c = within c.before.before.before.before.before.before.before.before.tree.ensures.stems_length c.before.before.before.before.before.before.before.before.before.before.before.before.before.before.before.before.requires.1.2.lstems
 
 slice-aggregate-called-2 : tie.Need-slice-aggregate-called-2
-slice-aggregate-called-2 c = counts _ _ c.before.before.before.before.before.before.before.before.before.tree.ensures.stems-length c.before.before.before.before.before.before.before.before.before.before.before.before.before.before.before.before.before.requires.1.2.lstems
+slice-aggregate-called-2 c = counts _ _ c.before.before.before.before.before.before.before.before.before.tree.ensures.stems_length c.before.before.before.before.before.before.before.before.before.before.before.before.before.before.before.before.before.requires.1.2.lstems
 
 array-share-prefix-litems : tie.Need-array-share-prefix-litems
-array-share-prefix-litems c = within c.before.before.before.before.before.before.before.before.before.tree.ensures.items-length c.before.before.before.before.before.before.before.before.before.before.before.before.before.before.before.before.before.requires.1.2.litems
+array-share-prefix-litems c = within c.before.before.before.before.before.before.before.before.before.tree.ensures.items_length c.before.before.before.before.before.before.before.before.before.before.before.before.before.before.before.before.before.requires.1.2.litems
 
 slice-aggregate-called-3 : tie.Need-slice-aggregate-called-3
-slice-aggregate-called-3 c = counts _ _ c.before.before.before.before.before.before.before.before.before.before.tree.ensures.items-length c.before.before.before.before.before.before.before.before.before.before.before.before.before.before.before.before.before.before.requires.1.2.litems
+slice-aggregate-called-3 c = counts _ _ c.before.before.before.before.before.before.before.before.before.before.tree.ensures.items_length c.before.before.before.before.before.before.before.before.before.before.before.before.before.before.before.before.before.before.requires.1.2.litems
 
 array-share-prefix-lcoords : tie.Need-array-share-prefix-lcoords
-array-share-prefix-lcoords c = within c.before.before.before.before.before.before.before.before.before.before.tree.ensures.coords-length c.before.before.before.before.before.before.before.before.before.before.before.before.before.before.before.before.before.before.requires.1.2.lcoords
+array-share-prefix-lcoords c = within c.before.before.before.before.before.before.before.before.before.before.tree.ensures.coords_length c.before.before.before.before.before.before.before.before.before.before.before.before.before.before.before.before.before.before.requires.1.2.lcoords
 
 slice-aggregate-called-4 : tie.Need-slice-aggregate-called-4
-slice-aggregate-called-4 c = counts _ _ c.before.before.before.before.before.before.before.before.before.before.before.tree.ensures.coords-length c.before.before.before.before.before.before.before.before.before.before.before.before.before.before.before.before.before.before.before.requires.1.2.lcoords
+slice-aggregate-called-4 c = counts _ _ c.before.before.before.before.before.before.before.before.before.before.before.tree.ensures.coords_length c.before.before.before.before.before.before.before.before.before.before.before.before.before.before.before.before.before.before.before.requires.1.2.lcoords
 
 array-share-prefix-rstarts : tie.Need-array-share-prefix-rstarts
-array-share-prefix-rstarts c = within c.before.before.before.before.before.before.tree2.ensures.starts-length c.before.before.before.before.before.before.before.before.before.before.before.before.before.before.before.before.before.before.before.requires.1.2.rstarts
+array-share-prefix-rstarts c = within c.before.before.before.before.before.before.tree2.ensures.starts_length c.before.before.before.before.before.before.before.before.before.before.before.before.before.before.before.before.before.before.before.requires.1.2.rstarts
 
 slice-aggregate-called-5 : tie.Need-slice-aggregate-called-5
-slice-aggregate-called-5 c = counts _ _ c.before.before.before.before.before.before.before.tree2.ensures.starts-length c.before.before.before.before.before.before.before.before.before.before.before.before.before.before.before.before.before.before.before.before.requires.1.2.rstarts
+slice-aggregate-called-5 c = counts _ _ c.before.before.before.before.before.before.before.tree2.ensures.starts_length c.before.before.before.before.before.before.before.before.before.before.before.before.before.before.before.before.before.before.before.before.requires.1.2.rstarts
 
 array-share-prefix-rstems : tie.Need-array-share-prefix-rstems
-array-share-prefix-rstems c = within c.before.before.before.before.before.before.before.tree2.ensures.stems-length c.before.before.before.before.before.before.before.before.before.before.before.before.before.before.before.before.before.before.before.before.requires.1.2.rstems
+array-share-prefix-rstems c = within c.before.before.before.before.before.before.before.tree2.ensures.stems_length c.before.before.before.before.before.before.before.before.before.before.before.before.before.before.before.before.before.before.before.before.requires.1.2.rstems
 
 slice-aggregate-called-6 : tie.Need-slice-aggregate-called-6
-slice-aggregate-called-6 c = counts _ _ c.before.before.before.before.before.before.before.before.tree2.ensures.stems-length c.before.before.before.before.before.before.before.before.before.before.before.before.before.before.before.before.before.before.before.before.before.requires.1.2.rstems
+slice-aggregate-called-6 c = counts _ _ c.before.before.before.before.before.before.before.before.tree2.ensures.stems_length c.before.before.before.before.before.before.before.before.before.before.before.before.before.before.before.before.before.before.before.before.before.requires.1.2.rstems
 
 array-share-prefix-ritems : tie.Need-array-share-prefix-ritems
-array-share-prefix-ritems c = within c.before.before.before.before.before.before.before.before.tree2.ensures.items-length c.before.before.before.before.before.before.before.before.before.before.before.before.before.before.before.before.before.before.before.before.before.requires.1.2.ritems
+array-share-prefix-ritems c = within c.before.before.before.before.before.before.before.before.tree2.ensures.items_length c.before.before.before.before.before.before.before.before.before.before.before.before.before.before.before.before.before.before.before.before.before.requires.1.2.ritems
 
 slice-aggregate-called-7 : tie.Need-slice-aggregate-called-7
-slice-aggregate-called-7 c = counts _ _ c.before.before.before.before.before.before.before.before.before.tree2.ensures.items-length c.before.before.before.before.before.before.before.before.before.before.before.before.before.before.before.before.before.before.before.before.before.before.requires.1.2.ritems
+slice-aggregate-called-7 c = counts _ _ c.before.before.before.before.before.before.before.before.before.tree2.ensures.items_length c.before.before.before.before.before.before.before.before.before.before.before.before.before.before.before.before.before.before.before.before.before.before.requires.1.2.ritems
 
 array-share-prefix-rcoords : tie.Need-array-share-prefix-rcoords
-array-share-prefix-rcoords c = within c.before.before.before.before.before.before.before.before.before.tree2.ensures.coords-length c.before.before.before.before.before.before.before.before.before.before.before.before.before.before.before.before.before.before.before.before.before.before.requires.1.2.rcoords
+array-share-prefix-rcoords c = within c.before.before.before.before.before.before.before.before.before.tree2.ensures.coords_length c.before.before.before.before.before.before.before.before.before.before.before.before.before.before.before.before.before.before.before.before.before.before.requires.1.2.rcoords
 
 slice-aggregate-called-8 : tie.Need-slice-aggregate-called-8
-slice-aggregate-called-8 c = counts _ _ c.before.before.before.before.before.before.before.before.before.before.tree2.ensures.coords-length c.before.before.before.before.before.before.before.before.before.before.before.before.before.before.before.before.before.before.before.before.before.before.before.requires.1.2.rcoords
+slice-aggregate-called-8 c = counts _ _ c.before.before.before.before.before.before.before.before.before.before.tree2.ensures.coords_length c.before.before.before.before.before.before.before.before.before.before.before.before.before.before.before.before.before.before.before.before.before.before.before.requires.1.2.rcoords
 
 called-requires : tie.Need-called-requires
 called-requires c κs = (c.before.before.before.before.before.before.before.before.before.before.before.before.before.before.before.before.before.before.before.before.before.before.before.requires.1.2.lout, c.before.before.before.before.before.before.before.before.before.before.before.before.before.before.before.before.before.before.before.before.before.before.before.requires.1.2.rout, c.before.before.before.before.before.before.before.before.before.before.before.before.before.before.before.before.before.before.before.before.before.before.before.requires.1.2.dout)

@@ -5,7 +5,7 @@ use Prim.Native.Nat.{ℕ}
 use borrow.Author.Rules.{rules}
 use borrow.Author.Tests.{not-false}
 use Rattle.reading.specs.Lays.{Lays, LaidOut}
-use Rattle.reading.specs.Laws.{within, end-within}
+use Rattle.reading.specs.Laws.{within, end_within}
 use Rattle.reading.specs.declared.layout.Layout.{Layout}
 use Rattle.reading.specs.declared.layout.Laid.{Laid}
 use Rattle.reading.specs.declared.layout.Laid.TheVariants.{Tree}
@@ -37,7 +37,7 @@ returns c = search rules
 lay-requires-2 : tie.Need-lay-requires-2
 lay-requires-2 c κs =
     let laid = found _ _ _ _ _ c.before.l.given.1 c.before.before.before.lay.ensures in
-    (end-within laid, c.before.before.before.before.before.before.before.before.requires.1, c.before.before.before.before.byte_at.ensures.1)
+    (end_within laid, c.before.before.before.before.before.before.before.before.requires.1, c.before.before.before.before.byte_at.ensures.1)
 
 enum-known-r : tie.Need-enum-known-r
 enum-known-r c = search rules

@@ -8,13 +8,13 @@ use lib.Ieee.{Float, nan}
 use lib.Seq.{get_or-drop}
 use borrow.Author.Rules.{rules}
 use Rattle.written.specs.LentTree.{Cursor, near, far, axis}
-use Rattle.written.specs.NodePairs.{onSide}
+use Rattle.written.specs.NodePairs.{on_side}
 use Rattle.cursor.specs.Held.{node_of, Splits, side_of}
 use Rattle.cursor.specs.declared.Cursor.{Cursor as Held}
 use Rattle.cursor.proofs.Laws.{side_left, side_right}
 use Rattle.steps.specs.declared.nodes.Nodes.{Nodes}
 use Rattle.steps.specs.Standing.{chosen, Descended}
-use Rattle.steps.proofs.Sides.{chosen_is, moved-is}
+use Rattle.steps.proofs.Sides.{chosen_is, moved_is}
 use Rattle.steps.proofs.descent.descend.Statement.{statement}
 use Rattle.steps.proofs.descent.descend.Tie as tie
 
@@ -34,7 +34,7 @@ splits-at c = chosen_is (from-cursor c).args.side (from-cursor c).args.at c.curs
 
 -- the stems of its tree
 abbrev stems-of : tie.Start → List Float
-stems-of s = onSide (side_of s.args.side) s.args.lstems.now s.args.rstems.now
+stems-of s = on_side (side_of s.args.side) s.args.lstems.now s.args.rstems.now
 
 -- the first from place i on is place i
 first-from : (l : List Float) (i : ℕ) {rest : List Float} → rest ≡ drop i l → get_or rest 0 nan ≡ get_or l i nan
@@ -55,14 +55,14 @@ cast-axis c = search rules
 stems-from-requires : tie.Need-stems-from-requires
 stems-from-requires c κs =
     let s = from-cursor (from-stem c) in
-    subst (λ (n : Cursor). n.stem < length (stems-of s)) (sym (splits-at (from-stem c))) s.pre.stem-read
+    subst (λ (n : Cursor). n.stem < length (stems-of s)) (sym (splits-at (from-stem c))) s.pre.stem_read
 
 shared-slice-read-pivot : tie.Need-shared-slice-read-pivot
 shared-slice-read-pivot c = search rules
 
 -- a cursor put on the side that is split, the other side as it was
 abbrev PutOn : tie.Start → Held → Nodes → Type 0
-PutOn s to r = (r.left ≡ onSide (side_of s.args.side) to s.args.at.left) × (r.right ≡ onSide (side_of s.args.side) s.args.at.right to)
+PutOn s to r = (r.left ≡ on_side (side_of s.args.side) to s.args.at.left) × (r.right ≡ on_side (side_of s.args.side) s.args.at.right to)
 
 -- with both halves so put, all that is promised holds
 descended : (c : tie.After-right) {n f : Nodes}
@@ -78,10 +78,10 @@ descended c {n} {f} p q =
     let half = t.before.before.before.before.before.split in
     let e = splits-at here in
     record {
-      to-near = moved-is a.side a.at n half.result.near p (half.ensures.0 ∙ ap near e);
-      to-far = moved-is a.side a.at f half.result.far q (half.ensures.1 ∙ ap far e);
-      on-axis = t.before.before.axis.ensures ∙ ap (axis a.k) e;
-      by-pivot = first-from (stems-of s) here.cursor-of.result.stem.0 t.stems-from.ensures.0 ∙ ap (λ (n : Cursor). get_or (stems-of s) n.stem nan) e;
+      to_near = moved_is a.side a.at n half.result.near p (half.ensures.0 ∙ ap near e);
+      to_far = moved_is a.side a.at f half.result.far q (half.ensures.1 ∙ ap far e);
+      on_axis = t.before.before.axis.ensures ∙ ap (axis a.k) e;
+      by_pivot = first-from (stems-of s) here.cursor-of.result.stem.0 t.stems-from.ensures.0 ∙ ap (λ (n : Cursor). get_or (stems-of s) n.stem nan) e;
     }
 
 returns : tie.Need-returns

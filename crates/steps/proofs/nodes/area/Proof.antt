@@ -3,7 +3,7 @@ use mathlib.Core.Path.{ap₂}
 use Prim.Native.Nat.{◌*◌}
 use native.Mathlib.Omega.{arith}
 use borrow.Author.Rules.{rules}
-use Rattle.steps.proofs.PlacesRead.{area-few}
+use Rattle.steps.proofs.PlacesRead.{area_few}
 use Rattle.steps.proofs.nodes.area.Statement.{statement}
 use Rattle.steps.proofs.nodes.area.Tie as tie
 
@@ -16,7 +16,7 @@ points-requires-2 c κs = search rules
 mul-result : tie.Need-overflow-mul-result
 mul-result c =
     let p = c.before.before.before.before.requires in
-    omega (arith, area-few p.0 p.1, ap₂ ◌*◌ c.before.points.ensures c.points2.ensures)
+    omega (arith, area_few p.0 p.1, ap₂ ◌*◌ c.before.points.ensures c.points2.ensures)
 
 returns : tie.Need-returns
 returns c = ap₂ ◌*◌ c.before.points.ensures c.points2.ensures

@@ -3,13 +3,13 @@ use mathlib.Core.Path.{◌≡◌, sym, ap₂, ◌∙◌}
 use mathlib.Core.Bool.{false}
 use lib.Dec.{ltb}
 use borrow.Author.Rules.{rules}
-use Rattle.written.specs.LentTree.{isLeaf}
+use Rattle.written.specs.LentTree.{is_leaf}
 use Rattle.cursor.specs.Held.{node_of}
 use Rattle.steps.proofs.splitting.splits_right.Statement.{statement}
 use Rattle.steps.proofs.splitting.splits_right.Tie as tie
 
 -- past the test of the left side
-left-splits : (c : tie.Else1) → isLeaf (node_of c.before.before.args.at.left) ≡ false
+left-splits : (c : tie.Else1) → is_leaf (node_of c.before.before.args.at.left) ≡ false
 left-splits c = sym c.before.is_IsLeaf.ensures ∙ c.if1.false
 
 is-leaf-requires : tie.Need-is-leaf-requires

@@ -6,7 +6,7 @@ use Rattle.written.specs.LentTree.{Tree, start, Cursor, middle}
 use Rattle.cursor.specs.Held.{node_of}
 use Rattle.tree.specs.Lent.{tree_of, Stands}
 use Rattle.tree.proofs.Columns.{Reckoned, lies, halves_are}
-use Rattle.tree.proofs.Nodes.{splits, stem-read, on, leaf-read, start-within, column-within}
+use Rattle.tree.proofs.Nodes.{splits, stem_read, on, leaf_read, start_within, column_within}
 use Rattle.tree.proofs.order.node_ok.Statement.{statement}
 use Rattle.tree.proofs.order.node_ok.Tie as tie
 
@@ -38,8 +38,8 @@ split-requires c κs =
     let s = c.before.before.before.before in
     splits (stands s) s.requires.1
 
-middle-is : (c : tie.After-split) → c.split.result.far.first.0 ≡ middle (node_of (from-split c).args.c)
-middle-is c = ap (λ (n : Cursor). n.first) c.split.ensures.1
+middle_is : (c : tie.After-split) → c.split.result.far.first.0 ≡ middle (node_of (from-split c).args.c)
+middle_is c = ap (λ (n : Cursor). n.first) c.split.ensures.1
 
 axis-requires : tie.Need-axis-requires
 axis-requires c κs = search rules
@@ -48,47 +48,47 @@ cast-column : tie.Need-overflow-cast-column
 cast-column c = search rules
 
 mul-column : tie.Need-overflow-mul-column
-mul-column c = omega (arith, column-within (stands (from-axis c)) c.axis.result c.axis.ensures)
+mul-column c = omega (arith, column_within (stands (from-axis c)) c.axis.result c.axis.ensures)
 
 start-of-requires : tie.Need-start-of-requires
 start-of-requires c κs =
     let s = stands (from-axis c) in
-    leaf-read s _ (omega (arith, on s))
+    leaf_read s _ (omega (arith, on s))
 
 add-first : tie.Need-overflow-add-first
 add-first c =
     let s = stands (from_first c) in
     let d = c.before.axis in
-    omega (arith, column-within s d.result d.ensures, c.start_of_lem.ensures, start-within s (from_first c).args.c.first.0 (omega (arith, on s)))
+    omega (arith, column_within s d.result d.ensures, c.start_of.ensures, start_within s (from_first c).args.c.first.0 (omega (arith, on s)))
 
 start-of-requires-2 : tie.Need-start-of-requires-2
 start-of-requires-2 c κs =
     let s = stands (from_first c) in
-    leaf-read s _ (omega (arith, on s, middle-is c.before.before))
+    leaf_read s _ (omega (arith, on s, middle_is c.before.before))
 
 add-middle : tie.Need-overflow-add-middle
 add-middle c =
     let s = stands (from-middle c) in
     let d = c.before.before.axis in
     let h = c.before.before.before in
-    omega (arith, column-within s d.result d.ensures, c.start-of2.ensures, start-within s h.split.result.far.first.0 (omega (arith, on s, middle-is h)))
+    omega (arith, column_within s d.result d.ensures, c.start-of2.ensures, start_within s h.split.result.far.first.0 (omega (arith, on s, middle_is h)))
 
 start-of-requires-3 : tie.Need-start-of-requires-3
 start-of-requires-3 c κs =
     let s = stands (from-middle c) in
-    leaf-read s _ (on s).inside
+    leaf_read s _ (on s).inside
 
 add-end : tie.Need-overflow-add-end
 add-end c =
     let s = stands (from_end c) in
     let d = c.before.before.before.axis in
-    omega (arith, column-within s d.result d.ensures, c.start-of3.ensures, start-within s (from_end c).args.c.end.0 (on s).inside)
+    omega (arith, column_within s d.result d.ensures, c.start-of3.ensures, start_within s (from_end c).args.c.end.0 (on s).inside)
 
-reckoned : (c : tie.After-start-of3) → Reckoned (from_end c).args.k (tree-of (from_end c)) (node_of (from_end c).args.c) c.before.before.before.axis.result c.before.before.start_of_lem.result c.before.start-of2.result c.start-of3.result
+reckoned : (c : tie.After-start-of3) → Reckoned (from_end c).args.k (tree-of (from_end c)) (node_of (from_end c).args.c) c.before.before.before.axis.result c.before.before.start_of.result c.before.start-of2.result c.start-of3.result
 reckoned c = record {
-  axis-is = c.before.before.before.axis.ensures;
-  first-is = c.before.before.start_of_lem.ensures;
-  middle-is = c.before.start-of2.ensures ∙ ap (start (tree-of (from_end c))) (middle-is c.before.before.before.before);
+  axis_is = c.before.before.before.axis.ensures;
+  first_is = c.before.before.start_of.ensures;
+  middle_is = c.before.start-of2.ensures ∙ ap (start (tree-of (from_end c))) (middle_is c.before.before.before.before);
   end_is = c.start-of3.ensures;
 }
 
@@ -126,7 +126,7 @@ mul-halves-ok-3 c = search rules
 shared-slice-read-halves-ok : tie.Need-shared-slice-read-halves-ok
 shared-slice-read-halves-ok c =
     let s = from_end c.before.before.before.before in
-    stem-read (stands s) s.pre.1
+    stem_read (stands s) s.pre.1
 
 halves-ok-requires : tie.Need-halves-ok-requires
 halves-ok-requires c κs = search rules

@@ -6,12 +6,12 @@ use native.Mathlib.Omega.{arith}
 use borrow.Fn.Kinds.{In}
 use borrow.Fn.PlainCycle.{Measures, is, falls, and}
 use Rattle.written.specs.LentTree.{Cursor}
-use Rattle.written.specs.Check.{pivotOk}
+use Rattle.written.specs.Check.{pivot_ok}
 use Rattle.cursor.specs.Held.{node_of}
 use Rattle.tree.specs.Lent.{tree_of, Stands}
-use Rattle.tree.proofs.Descent.{last-passes, fails-here, fails-near, far-decides}
+use Rattle.tree.proofs.Descent.{last_passes, fails_here, fails_near, far_decides}
 use Rattle.written.specs.Laws.Tests.{refused, granted}
-use Rattle.tree.proofs.Nodes.{splits, near-stands, far-stands}
+use Rattle.tree.proofs.Nodes.{splits, near_stands, far_stands}
 use Rattle.tree.proofs.pivots.pivots_ok.Reads as pivots-ok
 use Rattle.tree.proofs.pivots.pivots_ok.Kinds as pivots-ok-kinds
 use Rattle.tree.proofs.pivots.+pivots_ok.Lts-pivots_ok as pivots-ok-lts
@@ -41,7 +41,7 @@ pivots-ok-returns : (t : ℕ) → pivots-ok-lts.Need-returns (
 pivots-ok-returns t c =
     let a = c.before.before.before.before.before.before.args in
     let t = tree_of a.starts.now a.stems.now a.items.now a.coords.now in
-    last-passes (pivotOk a.k t) (node_of a.c) c.if1.true
+    last_passes (pivot_ok a.k t) (node_of a.c) c.if1.true
 
 pivots-ok-pivot-ok-requires : (t : ℕ) → pivots-ok-lts.Need-pivot-ok-requires (
   pivot-ok-reads.Asked,
@@ -65,7 +65,7 @@ pivots-ok-returns-2 t c =
     let a = c.before.before.before.before.before.before.before.before.args in
     let t = tree_of a.starts.now a.stems.now a.items.now a.coords.now in
     let h = pos_of_ne-zero c.before.before.if1.false in
-    fails-here (pivotOk a.k t) (node_of a.c) h (refused c.before.pivot-ok.ensures c.if2.true)
+    fails_here (pivot_ok a.k t) (node_of a.c) h (refused c.before.pivot_ok.ensures c.if2.true)
 
 pivots-ok-split-requires : (t : ℕ) → pivots-ok-lts.Need-split-requires (
   pivot-ok-reads.Asked,
@@ -91,7 +91,7 @@ pivots-ok-pivots-ok-requires t c κs =
     let h = pos_of_ne-zero c.before.before.before.before.if1.false in
     let p = c.before.before.before.before.before.before.before.before.before.before.requires in
     let e = c.before.split.ensures.0 in
-    (omega (arith, ap (λ (n : Cursor). n.rest) e, h, p.0), subst (λ (n : Cursor). Stands a.k t n) (sym e) (near-stands p.1 h))
+    (omega (arith, ap (λ (n : Cursor). n.rest) e, h, p.0), subst (λ (n : Cursor). Stands a.k t n) (sym e) (near_stands p.1 h))
 
 pivots-ok-returns-3 : (t : ℕ) → pivots-ok-lts.Need-returns-3 (
   pivot-ok-reads.Asked,
@@ -105,7 +105,7 @@ pivots-ok-returns-3 t c =
     let a = c.before.before.before.before.before.before.before.before.before.before.before.before.args in
     let t = tree_of a.starts.now a.stems.now a.items.now a.coords.now in
     let h = pos_of_ne-zero c.before.before.before.before.before.before.if1.false in
-    fails-near (pivotOk a.k t) (node_of a.c) h (granted c.before.before.before.before.before.pivot-ok.ensures c.before.before.before.before.if2.false) (node_of c.before.before.before.split.result.near) c.before.before.before.split.ensures.0 (refused c.before.pivots-ok.ensures c.if3.true)
+    fails_near (pivot_ok a.k t) (node_of a.c) h (granted c.before.before.before.before.before.pivot_ok.ensures c.before.before.before.before.if2.false) (node_of c.before.before.before.split.result.near) c.before.before.before.split.ensures.0 (refused c.before.pivots-ok.ensures c.if3.true)
 
 pivots-ok-pivots-ok-requires-2 : (t : ℕ) → pivots-ok-lts.Need-pivots-ok-requires-2 (
   pivot-ok-reads.Asked,
@@ -121,7 +121,7 @@ pivots-ok-pivots-ok-requires-2 t c κs =
     let h = pos_of_ne-zero c.before.before.before.before.before.before.before.if1.false in
     let p = c.before.before.before.before.before.before.before.before.before.before.before.before.before.requires in
     let e = c.before.before.before.before.split.ensures.1 in
-    (omega (arith, ap (λ (n : Cursor). n.rest) e, h, p.0), subst (λ (n : Cursor). Stands a.k t n) (sym e) (far-stands p.1 h))
+    (omega (arith, ap (λ (n : Cursor). n.rest) e, h, p.0), subst (λ (n : Cursor). Stands a.k t n) (sym e) (far_stands p.1 h))
 
 pivots-ok-returns-4 : (t : ℕ) → pivots-ok-lts.Need-returns-4 (
   pivot-ok-reads.Asked,
@@ -136,7 +136,7 @@ pivots-ok-returns-4 t c =
     let t = tree_of a.starts.now a.stems.now a.items.now a.coords.now in
     let h = pos_of_ne-zero c.before.before.before.before.before.before.before.before.if1.false in
     c.pivots-ok2.ensures
-    ∙ far-decides (pivotOk a.k t) (node_of a.c) h (granted c.before.before.before.before.before.before.before.pivot-ok.ensures c.before.before.before.before.before.before.if2.false) (node_of c.before.before.before.before.before.split.result.near) c.before.before.before.before.before.split.ensures.0 (granted c.before.before.before.pivots-ok.ensures c.before.before.if3.false) (node_of c.before.before.before.before.before.split.result.far) c.before.before.before.before.before.split.ensures.1
+    ∙ far_decides (pivot_ok a.k t) (node_of a.c) h (granted c.before.before.before.before.before.before.before.pivot_ok.ensures c.before.before.before.before.before.before.if2.false) (node_of c.before.before.before.before.before.split.result.near) c.before.before.before.before.before.split.ensures.0 (granted c.before.before.before.pivots-ok.ensures c.before.before.if3.false) (node_of c.before.before.before.before.before.split.result.far) c.before.before.before.before.before.split.ensures.1
 
 pub +pivots-ok-spec : {M : Type 1} → statement M
 +pivots-ok-spec = close μ-pivots-ok λ t. pivots-ok-lts.spec (

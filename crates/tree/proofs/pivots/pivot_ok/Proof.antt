@@ -5,14 +5,14 @@ use native.Mathlib.Omega.{arith}
 use borrow.Author.Rules.{rules}
 use borrow.Author.Tests.{eq-eqb, ne_eqb}
 use Rattle.written.specs.LentTree.{span}
-use Rattle.written.specs.Laws.LentTree.{on-node}
+use Rattle.written.specs.Laws.LentTree.{on_node}
 use Rattle.cursor.specs.Held.{node_of}
-use Rattle.tree.proofs.Nodes.{stem-read}
+use Rattle.tree.proofs.Nodes.{stem_read}
 use Rattle.tree.proofs.pivots.pivot_ok.Statement.{statement}
 use Rattle.tree.proofs.pivots.pivot_ok.Tie as tie
 
 span-requires : tie.Need-span-requires
-span-requires c κs = (on-node c.before.before.before.before.requires.0.node).ordered
+span-requires c κs = (on_node c.before.before.before.before.requires.0.node).ordered
 
 returns : tie.Need-returns
 returns c =
@@ -28,7 +28,7 @@ mul-no-pivot c = search rules
 shared-slice-read-no-pivot : tie.Need-shared-slice-read-no-pivot
 shared-slice-read-no-pivot c =
     let p = c.before.before.before.before.before.before.before.before.requires in
-    stem-read p.0 p.1
+    stem_read p.0 p.1
 
 no-pivot-requires : tie.Need-no-pivot-requires
 no-pivot-requires c κs = search rules
