@@ -17,7 +17,7 @@
  *   coords  axis by axis: axis d of the point at place p is coords[d * n + p];
  *           k * n of them, k from 1 to 4
  *
- * Every join returns a refusal number, OUL_ANSWERED (0) for none. Trees are
+ * Every function returns a refusal number, OUL_ANSWERED (0) for none. Trees are
  * checked before anything is done: the left wholly, then the right, then the
  * rooms; the lowest number wins within a tree.
  */
@@ -30,17 +30,6 @@
 #ifdef __cplusplus
 extern "C" {
 #endif
-
-/*
- * The version of this header. The library linked must be of the same: ask it
- * once, before the first call, since another version may take other parameters.
- * The number rises with every landing that changes an exported function or
- * appends a number to the answer. Answers only ever grow at the end, so a
- * program built with room for six numbers goes on getting its six.
- */
-#define OUL_VERSION 1
-
-uint32_t oul_version(void);
 
 /*
  * Refusals 1 to 8 leave the rooms untouched, and nothing found and all totals
@@ -108,7 +97,6 @@ typedef struct {
     size_t distance_len;
 } oul_nearest_rooms;
 
-/* What a join tells. Later versions append fields, and move none. */
 typedef struct {
     uint64_t side;        /* of the tree refused: 0 left, 1 right; 0 for 0, 1, 8, 9 */
     uint64_t found;       /* pairs that pass, stored or not; nearest: answers stored */
@@ -118,27 +106,10 @@ typedef struct {
     uint64_t taken_whole; /* pairs of points counted with their nodes */
 } oul_answer;
 
-/* How many numbers this header's oul_answer has. */
-#define OUL_NUMBERS 6
-
 /*
- * The library's own functions. A buffer is a pointer and a length, in elements,
- * for which the pointer must be valid. The caller also sees to these, since no
- * refusal can tell them:
- *
- * NULL       no pointer may be NULL, even where its length is 0: no tree's, no
- *            room's, nor the answer
- * alignment  each pointer must be aligned for its elements: to 4 bytes for
- *            uint32_t, to 8 for double and uint64_t
- * overlap    no room may overlap another room, a buffer of a tree or the answer;
- *            nor may the answer overlap a buffer of a tree. The trees are only
- *            read: they may share memory, and the same tree may be passed twice
- * others     nobody else may write to the trees during the call, or read or
- *            write the rooms and the answer
- *
- * `answer` gets the numbers of oul_answer, in that order: all of them, or the
- * first answer_len if that is fewer (none for 0). What lies beyond them is not
- * touched, be it within answer_len or not.
+ * The library's own functions. A buffer is a pointer that is not NULL, even
+ * where its length is 0, and a length; `answer` is room for the six numbers of
+ * oul_answer, in that order.
  */
 uint32_t oul_pairs_up_to(
     uint32_t k, double radius,
@@ -147,7 +118,7 @@ uint32_t oul_pairs_up_to(
     const uint32_t *rstarts, size_t rstarts_len, const double *rstems, size_t rstems_len,
     const uint32_t *ritems, size_t ritems_len, const double *rcoords, size_t rcoords_len,
     uint32_t *lout, size_t lout_len, uint32_t *rout, size_t rout_len,
-    double *dout, size_t dout_len, uint64_t *answer, size_t answer_len);
+    double *dout, size_t dout_len, uint64_t *answer);
 
 uint32_t oul_pairs_under(
     uint32_t k, double radius,
@@ -156,7 +127,7 @@ uint32_t oul_pairs_under(
     const uint32_t *rstarts, size_t rstarts_len, const double *rstems, size_t rstems_len,
     const uint32_t *ritems, size_t ritems_len, const double *rcoords, size_t rcoords_len,
     uint32_t *lout, size_t lout_len, uint32_t *rout, size_t rout_len,
-    double *dout, size_t dout_len, uint64_t *answer, size_t answer_len);
+    double *dout, size_t dout_len, uint64_t *answer);
 
 uint32_t oul_counts_up_to(
     uint32_t k, double radius,
@@ -164,7 +135,7 @@ uint32_t oul_counts_up_to(
     const uint32_t *litems, size_t litems_len, const double *lcoords, size_t lcoords_len,
     const uint32_t *rstarts, size_t rstarts_len, const double *rstems, size_t rstems_len,
     const uint32_t *ritems, size_t ritems_len, const double *rcoords, size_t rcoords_len,
-    uint64_t *answer, size_t answer_len);
+    uint64_t *answer);
 
 uint32_t oul_counts_under(
     uint32_t k, double radius,
@@ -172,7 +143,7 @@ uint32_t oul_counts_under(
     const uint32_t *litems, size_t litems_len, const double *lcoords, size_t lcoords_len,
     const uint32_t *rstarts, size_t rstarts_len, const double *rstems, size_t rstems_len,
     const uint32_t *ritems, size_t ritems_len, const double *rcoords, size_t rcoords_len,
-    uint64_t *answer, size_t answer_len);
+    uint64_t *answer);
 
 uint32_t oul_nearest(
     uint32_t k,
@@ -180,15 +151,13 @@ uint32_t oul_nearest(
     const uint32_t *litems, size_t litems_len, const double *lcoords, size_t lcoords_len,
     const uint32_t *rstarts, size_t rstarts_len, const double *rstems, size_t rstems_len,
     const uint32_t *ritems, size_t ritems_len, const double *rcoords, size_t rcoords_len,
-    uint32_t *items, size_t items_len, double *dists, size_t dists_len,
-    uint64_t *answer, size_t answer_len);
+    uint32_t *items, size_t items_len, double *dists, size_t dists_len, uint64_t *answer);
 
 /* The radius of a length: r * r, rounded once, whatever r is. */
 double oul_radius_of(double r);
 
 /*
- * The same over structs, which tell every number of oul_answer. NULL with length
- * 0 is an empty buffer here.
+ * The same over structs. NULL with length 0 is an empty buffer here.
  */
 static inline const uint32_t *oul_u32s_(const uint32_t *given, size_t len)
 {
@@ -215,15 +184,15 @@ static inline double *oul_f64_room_(double *given, size_t len)
     return given == NULL && len == 0 ? &none : given;
 }
 
-static inline oul_answer oul_answer_(const uint64_t told[OUL_NUMBERS])
+static inline oul_answer oul_answer_(const uint64_t six[6])
 {
     oul_answer answer;
-    answer.side = told[0];
-    answer.found = told[1];
-    answer.visits = told[2];
-    answer.measured = told[3];
-    answer.ruled_out = told[4];
-    answer.taken_whole = told[5];
+    answer.side = six[0];
+    answer.found = six[1];
+    answer.visits = six[2];
+    answer.measured = six[3];
+    answer.ruled_out = six[4];
+    answer.taken_whole = six[5];
     return answer;
 }
 
@@ -242,10 +211,10 @@ static inline oul_answer oul_answer_(const uint64_t told[OUL_NUMBERS])
 static inline uint32_t oul_join_pairs_up_to(
     uint32_t k, double radius, oul_tree left, oul_tree right, oul_rooms rooms, oul_answer *answer)
 {
-    uint64_t told[OUL_NUMBERS] = {0};
+    uint64_t six[6];
     uint32_t refusal = oul_pairs_up_to(
-        k, radius, OUL_TREE_(left), OUL_TREE_(right), OUL_ROOMS_(rooms), told, OUL_NUMBERS);
-    *answer = oul_answer_(told);
+        k, radius, OUL_TREE_(left), OUL_TREE_(right), OUL_ROOMS_(rooms), six);
+    *answer = oul_answer_(six);
     return refusal;
 }
 
@@ -253,10 +222,10 @@ static inline uint32_t oul_join_pairs_up_to(
 static inline uint32_t oul_join_pairs_under(
     uint32_t k, double radius, oul_tree left, oul_tree right, oul_rooms rooms, oul_answer *answer)
 {
-    uint64_t told[OUL_NUMBERS] = {0};
+    uint64_t six[6];
     uint32_t refusal = oul_pairs_under(
-        k, radius, OUL_TREE_(left), OUL_TREE_(right), OUL_ROOMS_(rooms), told, OUL_NUMBERS);
-    *answer = oul_answer_(told);
+        k, radius, OUL_TREE_(left), OUL_TREE_(right), OUL_ROOMS_(rooms), six);
+    *answer = oul_answer_(six);
     return refusal;
 }
 
@@ -264,10 +233,9 @@ static inline uint32_t oul_join_pairs_under(
 static inline uint32_t oul_join_counts_up_to(
     uint32_t k, double radius, oul_tree left, oul_tree right, oul_answer *answer)
 {
-    uint64_t told[OUL_NUMBERS] = {0};
-    uint32_t refusal = oul_counts_up_to(
-        k, radius, OUL_TREE_(left), OUL_TREE_(right), told, OUL_NUMBERS);
-    *answer = oul_answer_(told);
+    uint64_t six[6];
+    uint32_t refusal = oul_counts_up_to(k, radius, OUL_TREE_(left), OUL_TREE_(right), six);
+    *answer = oul_answer_(six);
     return refusal;
 }
 
@@ -275,10 +243,9 @@ static inline uint32_t oul_join_counts_up_to(
 static inline uint32_t oul_join_counts_under(
     uint32_t k, double radius, oul_tree left, oul_tree right, oul_answer *answer)
 {
-    uint64_t told[OUL_NUMBERS] = {0};
-    uint32_t refusal = oul_counts_under(
-        k, radius, OUL_TREE_(left), OUL_TREE_(right), told, OUL_NUMBERS);
-    *answer = oul_answer_(told);
+    uint64_t six[6];
+    uint32_t refusal = oul_counts_under(k, radius, OUL_TREE_(left), OUL_TREE_(right), six);
+    *answer = oul_answer_(six);
     return refusal;
 }
 
@@ -286,18 +253,17 @@ static inline uint32_t oul_join_counts_under(
  * For each left point, in place order, the nearest right item and its squared
  * distance; of several that are equally near, the first that the walk measures.
  * Where every distance overflows: item 0 and +inf. Item 0 may be a real one too.
- * If a tree holds no points, nothing is stored, found is 0, and so are all totals.
+ * If a tree holds no points, nothing is stored and all six numbers are 0.
  */
 static inline uint32_t oul_join_nearest(
     uint32_t k, oul_tree left, oul_tree right, oul_nearest_rooms rooms, oul_answer *answer)
 {
-    uint64_t told[OUL_NUMBERS] = {0};
+    uint64_t six[6];
     uint32_t refusal = oul_nearest(
         k, OUL_TREE_(left), OUL_TREE_(right),
         oul_u32_room_(rooms.items, rooms.items_len), rooms.items_len,
-        oul_f64_room_(rooms.distance, rooms.distance_len), rooms.distance_len,
-        told, OUL_NUMBERS);
-    *answer = oul_answer_(told);
+        oul_f64_room_(rooms.distance, rooms.distance_len), rooms.distance_len, six);
+    *answer = oul_answer_(six);
     return refusal;
 }
 

@@ -1,7 +1,6 @@
 /*
  * The stand examples of the scope paper, each refusal on either side, nearest
- * in rooms of every length and of empty trees, the radius of a length, the
- * version, and the library's own functions with room for 0 to 8 numbers. Exit
+ * in rooms of every length and of empty trees, and the radius of a length. Exit
  * status 1 at a difference.
  */
 #include "oulavisok.h"
@@ -294,140 +293,12 @@ static void radii(void)
     expect("radius of 1e200", oul_radius_of(1e200) == INFINITY);
 }
 
-/* The library's own functions: trees of one axis, ROOM places lent. */
-#define RAW_TREE(t) \
-    (t).starts, (t).starts_len, (t).stems, (t).stems_len, \
-    (t).items, (t).items_len, (t).coords, (t).coords_len
-#define RAW_ROOMS(r) \
-    (r).left, (r).left_len, (r).right, (r).right_len, (r).distance, (r).distance_len
-
-typedef uint32_t raw_join(oul_tree l, oul_tree r, uint64_t *answer, size_t answer_len);
-
-static uint32_t raw_pairs_up_to(oul_tree l, oul_tree r, uint64_t *answer, size_t answer_len)
-{
-    oul_rooms to = rooms(ROOM);
-    return oul_pairs_up_to(
-        1, 1, RAW_TREE(l), RAW_TREE(r), RAW_ROOMS(to), answer, answer_len);
-}
-
-static uint32_t raw_pairs_under(oul_tree l, oul_tree r, uint64_t *answer, size_t answer_len)
-{
-    oul_rooms to = rooms(ROOM);
-    return oul_pairs_under(
-        1, 9, RAW_TREE(l), RAW_TREE(r), RAW_ROOMS(to), answer, answer_len);
-}
-
-static uint32_t raw_counts_up_to(oul_tree l, oul_tree r, uint64_t *answer, size_t answer_len)
-{
-    rooms(ROOM);
-    return oul_counts_up_to(1, INFINITY, RAW_TREE(l), RAW_TREE(r), answer, answer_len);
-}
-
-static uint32_t raw_counts_under(oul_tree l, oul_tree r, uint64_t *answer, size_t answer_len)
-{
-    rooms(ROOM);
-    return oul_counts_under(1, 9, RAW_TREE(l), RAW_TREE(r), answer, answer_len);
-}
-
-static uint32_t raw_nearest(oul_tree l, oul_tree r, uint64_t *answer, size_t answer_len)
-{
-    oul_nearest_rooms to = near_rooms(ROOM);
-    return oul_nearest(
-        1, RAW_TREE(l), RAW_TREE(r), to.items, to.items_len, to.distance, to.distance_len,
-        answer, answer_len);
-}
-
-static int pairs_of_b(size_t found)
-{
-    return stored(found, b_found);
-}
-
-static int nearest_of_b(size_t found)
-{
-    return kept(found, b_near);
-}
-
-static int nothing(size_t found)
-{
-    (void)found;
-    return stored(0, NULL);
-}
-
-/* Each join of the trees of B: its numbers, and whether the rooms hold what is due. */
-typedef struct {
-    const char *name;
-    raw_join *join;
-    uint64_t numbers[OUL_NUMBERS];
-    int (*as_due)(size_t found);
-} raw_call;
-
-static const raw_call raw_calls[] = {
-    {"pairs up to", raw_pairs_up_to, {0, 2, 7, 3, 1, 0}, pairs_of_b},
-    {"pairs under", raw_pairs_under, {0, 2, 7, 3, 1, 0}, pairs_of_b},
-    {"counts up to", raw_counts_up_to, {0, 4, 1, 0, 0, 4}, nothing},
-    {"counts under", raw_counts_under, {0, 2, 7, 3, 1, 0}, nothing},
-    {"nearest", raw_nearest, {0, 2, 7, 3, 1, 0}, nearest_of_b},
-};
-
-/* Refused for its coordinates, on the right. */
-static const double b_not_a_number[] = {-5, NAN};
-static const oul_tree b_bad = TREE(b_starts, b_right_stems, b_right_items, b_not_a_number);
-static const uint64_t b_refused[OUL_NUMBERS] = {1, 0, 0, 0, 0, 0};
-
-#define AROUND 2
-#define MOST 8
-
-/*
- * Whether a call with room for so many numbers, a pattern in the room and around
- * it, stores the first that fit and leaves all else.
- */
-static int told_in(size_t room, const raw_call *call, oul_tree r, uint32_t refusal,
-                   const uint64_t *numbers)
-{
-    uint64_t answer[AROUND + MOST + AROUND], due[AROUND + MOST + AROUND];
-    size_t fit = room < OUL_NUMBERS ? room : OUL_NUMBERS;
-    uint32_t n;
-    memset(answer, 0xa5, sizeof answer);
-    memset(due, 0xa5, sizeof due);
-    memcpy(due + AROUND, numbers, fit * sizeof *due);
-    n = call->join(b_left, r, answer + AROUND, room);
-    return n == refusal && memcmp(answer, due, sizeof due) == 0
-        && call->as_due((size_t)numbers[1]);
-}
-
-/* All five joins with room for so many numbers, answered and refused. */
-static void in_room_for(size_t room, const char *group)
-{
-    char name[80];
-    size_t i;
-    for (i = 0; i < LEN(raw_calls); i++) {
-        const raw_call *call = &raw_calls[i];
-        snprintf(name, sizeof name, "%s: %s, room for %u", group, call->name, (unsigned)room);
-        expect(name, told_in(room, call, b_right, OUL_ANSWERED, call->numbers));
-        expect(name, told_in(room, call, b_bad, OUL_COORDINATE, b_refused));
-    }
-}
-
-static void answers(void)
-{
-    size_t room;
-    expect("OUL_NUMBERS", sizeof(oul_answer) == OUL_NUMBERS * sizeof(uint64_t));
-    for (room = 0; room <= MOST; room++)
-        in_room_for(room, "the answer");
-    /* Six, whatever OUL_NUMBERS has come to. */
-    in_room_for(6, "a program built with six numbers");
-}
-
 int main(void)
 {
-    expect("the library is of the header's version", oul_version() == OUL_VERSION);
-    if (wrong != 0)
-        return 1; /* Another version may take other parameters. */
     examples();
     nearest();
     refusals();
     radii();
-    answers();
     printf("%d cases, %d wrong\n", cases, wrong);
     return wrong != 0;
 }

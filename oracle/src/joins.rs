@@ -3,7 +3,6 @@
 
 use crate::cases::{Case, Size};
 use crate::radii;
-use crate::refusals::refusal;
 use crate::report::Report;
 use crate::rooms::Stored;
 use crate::rules;
@@ -47,14 +46,15 @@ pub fn sound(case: &Case, report: &mut Report, rng: &mut Rng) {
 
 /// What is due for so many found in rooms for so many.
 fn due(found: usize, room: usize, tally: &Tally) -> Numbers {
-    let mut due = Numbers::default();
-    due.refusal = if found > room { 9 } else { 0 };
-    due.found = found as u64;
-    due.visits = tally.visits;
-    due.measured = tally.measured;
-    due.ruled_out = tally.ruled_out;
-    due.taken_whole = tally.taken_whole;
-    due
+    Numbers {
+        refusal: if found > room { 9 } else { 0 },
+        side: 0,
+        found: found as u64,
+        visits: tally.visits,
+        measured: tally.measured,
+        ruled_out: tally.ruled_out,
+        taken_whole: tally.taken_whole,
+    }
 }
 
 /// Whether the trees were accepted.
@@ -118,7 +118,11 @@ fn rooms_differ(
     lengths[rng.below(3)] += more;
     let mut stored = Stored::of_lengths(lengths);
     let told = ours(case, radius, under, &mut stored);
-    let alike = told == refusal(8, 0) && stored.hold(&[]);
+    let due = Numbers {
+        refusal: 8,
+        ..due(0, 0, &Tally::default())
+    };
+    let alike = told == due && stored.hold(&[]);
     report.case("join, rooms that differ", &case.kind, alike, || {
         case.told(radius, under, &format!("rooms {lengths:?}, {told:?}"))
     });

@@ -5,7 +5,7 @@
 use crate::cases::{Case, Size};
 use crate::lots::Lot;
 use crate::near_tally::{near, Near};
-use crate::refusals::{damaged, due_of, refusal};
+use crate::refusals::{damaged, due_of};
 use crate::report::Report;
 use crate::rooms::Kept;
 use crate::rules;
@@ -103,12 +103,26 @@ fn ours(case: &Case, kept: &mut Kept) -> Numbers {
 
 /// Nothing is ever taken whole.
 fn answered(read: &Near) -> Numbers {
-    let mut due = Numbers::default();
-    due.found = read.answers.len() as u64;
-    due.visits = read.tally.visits;
-    due.measured = read.tally.measured;
-    due.ruled_out = read.tally.ruled_out;
-    due
+    Numbers {
+        found: read.answers.len() as u64,
+        visits: read.tally.visits,
+        measured: read.tally.measured,
+        ruled_out: read.tally.ruled_out,
+        ..refusal(0, 0)
+    }
+}
+
+/// A refusal leaves all totals 0.
+fn refusal(refusal: u32, side: u64) -> Numbers {
+    Numbers {
+        refusal,
+        side,
+        found: 0,
+        visits: 0,
+        measured: 0,
+        ruled_out: 0,
+        taken_whole: 0,
+    }
 }
 
 /// Pairs of points: beyond them the metric that counts is not asked.

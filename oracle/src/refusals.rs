@@ -60,20 +60,20 @@ pub fn due_of(case: &Case) -> (u32, u64) {
     }
 }
 
-/// A refusal leaves all totals 0.
-pub fn refusal(number: u32, side: u64) -> Numbers {
-    let mut due = Numbers::default();
-    due.refusal = number;
-    due.side = side;
-    due
-}
-
 fn refused(case: &Case, number: u32, side: u64, report: &mut Report, rng: &mut Rng) {
     report.draw(
         ["refused left", "refused right"][side as usize],
         BROKEN[number as usize],
     );
-    let due = refusal(number, side);
+    let due = Numbers {
+        refusal: number,
+        side,
+        found: 0,
+        visits: 0,
+        measured: 0,
+        ruled_out: 0,
+        taken_whole: 0,
+    };
     let radius = rng.pick(&[0.0, 1.0, f64::NAN, f64::INFINITY, -1.0]);
     let (k, left, right) = (case.k, case.left.ours(), case.right.ours());
     for join in [numbers::pairs_up_to, numbers::pairs_under] {

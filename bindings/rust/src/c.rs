@@ -1,6 +1,5 @@
-//! The library's C interface: a slice is passed as pointer and length, and so is
-//! the room for the answer's numbers. An archive of another version may declare
-//! these otherwise: `version::must_match` comes before any other call.
+//! The library's C interface: a slice is passed as pointer and length, the six
+//! numbers of the answer go to an array.
 
 /// Declares a function over two trees: what comes before them, and after.
 macro_rules! over_trees {
@@ -25,8 +24,7 @@ macro_rules! over_trees {
             rcoords: *const f64,
             rcoords_len: usize,
             $($last: $type,)*
-            answer: *mut u64,
-            answer_len: usize,
+            answer: *mut [u64; 6],
         ) -> u32;
     };
 }
@@ -70,5 +68,4 @@ extern "C" {
     over_trees!(oul_counts_under, (radius: f64), ());
     over_trees_and_answers!(oul_nearest);
     pub fn oul_radius_of(r: f64) -> f64;
-    pub fn oul_version() -> u32;
 }

@@ -20,23 +20,12 @@
 //! }
 //! assert_eq!((left[0], right[0], distance[0]), (2, 7, 4.0));
 //! ```
-//!
-//! The archive linked must be of the wrapper's [`VERSION`]: the first call panics
-//! if it is of another one.
 
 mod c;
 pub mod numbers;
 mod outcome;
-mod refusal;
-mod version;
 
-pub use outcome::{Answer, Outcome};
-pub use refusal::{Refusal, Side};
-pub use version::VERSION;
-
-// What grows is #[non_exhaustive]: `Answer`, `Numbers` and `Refusal`, which the
-// library fills. Trees and rooms the caller fills, and an outcome the caller has
-// to deal with whole: there, more should not go unnoticed.
+pub use outcome::{Answer, Outcome, Refusal};
 
 /// A lent tree of n points in m leaves.
 #[derive(Clone, Copy, Debug)]
@@ -115,7 +104,6 @@ pub fn nearest(k: u32, left: Tree, right: Tree, rooms: NearestRooms) -> Result<A
 
 /// The radius of a length: r * r, rounded once, whatever r is.
 pub fn radius_of(r: f64) -> f64 {
-    version::must_match();
-    // SAFETY: the archive is of this version; a number goes in, a number comes out.
+    // SAFETY: a number goes in, a number comes out.
     unsafe { c::oul_radius_of(r) }
 }

@@ -1,15 +1,10 @@
 //! The joins with their numbers as the library gives them: for those who
 //! compare numbers. [`Outcome::from`](crate::Outcome) reads them.
 
-use crate::{c, version, NearestRooms, Rooms, Tree};
+use crate::{c, NearestRooms, Rooms, Tree};
 
-/// How many numbers an answer has: `OUL_NUMBERS` of the C header.
-pub const ANSWER_LEN: usize = 6;
-
-/// The refusal's number (0 for none), and the numbers of the answer. Later
-/// versions append fields; to compare, fill those of [`Numbers::default`].
-#[derive(Clone, Copy, Debug, Default, PartialEq, Eq)]
-#[non_exhaustive]
+/// The refusal's number (0 for none), and the six numbers of the answer.
+#[derive(Clone, Copy, Debug, PartialEq, Eq)]
 pub struct Numbers {
     pub refusal: u32,
     /// 0 left, 1 right; 0 for refusals 0, 1, 8 and 9.
@@ -21,32 +16,14 @@ pub struct Numbers {
     pub taken_whole: u64,
 }
 
-impl Numbers {
-    /// The answer's numbers in the library's order.
-    fn new(refusal: u32, answer: [u64; ANSWER_LEN]) -> Self {
-        let [side, found, visits, measured, ruled_out, taken_whole] = answer;
-        Numbers {
-            refusal,
-            side,
-            found,
-            visits,
-            measured,
-            ruled_out,
-            taken_whole,
-        }
-    }
-}
-
-// SAFETY of the calls below: the archive is of this version, so its functions are
-// those that `c` declares. Pointers and lengths are those of slices that nobody
-// else writes during the call: none is null, all are aligned. The rooms and the
+// SAFETY of the calls below: pointers and lengths are those of slices that
+// nobody else writes during the call, none of them null; the rooms and the
 // answer are lent mutably, so they overlap nothing. The library tests all else.
 
 /// Calls a function over two trees: what comes first, both trees, the rooms.
 macro_rules! join {
     ($call:path, ($($first:expr),*), $l:expr, $r:expr, ($($rooms:expr),*)) => {{
-        version::must_match();
-        let mut answer = [0; ANSWER_LEN];
+        let mut six = [0; 6];
         let refusal = unsafe {
             $call(
                 $($first,)*
@@ -67,11 +44,19 @@ macro_rules! join {
                 $r.coords.as_ptr(),
                 $r.coords.len(),
                 $($rooms.as_mut_ptr(), $rooms.len(),)*
-                answer.as_mut_ptr(),
-                answer.len(),
+                &mut six,
             )
         };
-        Numbers::new(refusal, answer)
+        let [side, found, visits, measured, ruled_out, taken_whole] = six;
+        Numbers {
+            refusal,
+            side,
+            found,
+            visits,
+            measured,
+            ruled_out,
+            taken_whole,
+        }
     }};
 }
 

@@ -1,9 +1,8 @@
 //! Nearest: the stand examples of the scope paper, rooms of every length, empty
 //! trees, and each refusal.
 
-mod due;
-
-use oulavisok::{nearest, numbers, NearestRooms, Refusal, Side, Tree};
+use oulavisok::numbers::{self, Numbers};
+use oulavisok::{nearest, Answer, NearestRooms, Refusal, Tree};
 
 const A_LEFT: Tree = Tree {
     starts: &[0, 2, 4],
@@ -77,7 +76,13 @@ impl Kept {
 /// Visits, measured and ruled out; nothing is ever taken whole.
 fn answered(k: u32, left: Tree, right: Tree, due: &[(u32, f64)], totals: [u64; 3]) {
     let [visits, measured, ruled_out] = totals;
-    let answer = due::answer([due.len() as u64, visits, measured, ruled_out, 0]);
+    let answer = Answer {
+        found: due.len() as u64,
+        visits,
+        measured,
+        ruled_out,
+        taken_whole: 0,
+    };
     for beyond in [0, 1, 9] {
         let mut kept = Kept::of_lengths(due.len() + beyond, due.len() + beyond);
         assert_eq!(nearest(k, left, right, kept.rooms()), Ok(answer));
@@ -85,20 +90,21 @@ fn answered(k: u32, left: Tree, right: Tree, due: &[(u32, f64)], totals: [u64; 3
     }
 }
 
-/// Refused under this number and side, told as this refusal.
-fn refused(
-    (number, side): (u32, u64),
-    refusal: Refusal,
-    k: u32,
-    [left, right]: [Tree; 2],
-    lengths: [usize; 2],
-) {
+fn refused(number: u32, side: u64, k: u32, [left, right]: [Tree; 2], lengths: [usize; 2]) {
+    let due = Numbers {
+        refusal: number,
+        side,
+        found: 0,
+        visits: 0,
+        measured: 0,
+        ruled_out: 0,
+        taken_whole: 0,
+    };
     let mut kept = Kept::of_lengths(lengths[0], lengths[1]);
-    let told = numbers::nearest(k, left, right, kept.rooms());
-    assert_eq!(told, due::refused(number, side));
+    assert_eq!(numbers::nearest(k, left, right, kept.rooms()), due);
+    let refusal = Refusal { number, side };
     assert_eq!(nearest(k, left, right, kept.rooms()), Err(refusal));
-    assert_eq!(refusal.number(), told.refusal);
-    assert_eq!(refusal.side(), due::tree(told.refusal, told.side));
+    assert!(!refusal.to_string().starts_with("refusal"), "has a text");
     kept.hold(&[]);
 }
 
@@ -159,7 +165,7 @@ fn empty_trees() {
             assert_eq!((told.ruled_out, told.taken_whole), (0, 0));
             kept.hold(&[]);
         }
-        refused((8, 0), Refusal::Rooms, 2, [left, right], [3, 4]);
+        refused(8, 0, 2, [left, right], [3, 4]);
     };
     for empty in EMPTY {
         of_trees(empty, A_LEFT);
@@ -171,30 +177,27 @@ fn empty_trees() {
 #[test]
 fn rooms_that_differ() {
     for lengths in [[4, 5], [5, 4], [0, 4], [4, 0], [3, 4], [0, 1]] {
-        refused((8, 0), Refusal::Rooms, 2, [A_LEFT, A_RIGHT], lengths);
+        refused(8, 0, 2, [A_LEFT, A_RIGHT], lengths);
     }
 }
 
 #[test]
 fn rooms_too_small() {
     for room in 0..4 {
-        refused((9, 0), Refusal::Full, 2, [A_LEFT, A_RIGHT], [room; 2]);
+        refused(9, 0, 2, [A_LEFT, A_RIGHT], [room; 2]);
     }
     // The left number counts, not the right one.
     let mut kept = Kept::of_lengths(2, 2);
     assert!(nearest(2, A_RIGHT, A_LEFT, kept.rooms()).is_ok());
-    refused((9, 0), Refusal::Full, 2, [A_RIGHT, A_LEFT], [1; 2]);
+    refused(9, 0, 2, [A_RIGHT, A_LEFT], [1; 2]);
 }
-
-type OfTree = fn(Side) -> Refusal;
 
 /// A tree is refused before the rooms are looked at.
 #[test]
 fn trees_refused() {
-    let bad: [(u32, OfTree, Tree); 6] = [
+    let bad = [
         (
             2,
-            Refusal::Size,
             Tree {
                 starts: &[],
                 ..A_LEFT
@@ -202,7 +205,6 @@ fn trees_refused() {
         ),
         (
             3,
-            Refusal::Length,
             Tree {
                 stems: &[],
                 ..A_LEFT
@@ -210,7 +212,6 @@ fn trees_refused() {
         ),
         (
             4,
-            Refusal::Starts,
             Tree {
                 starts: &[0, 5, 4],
                 ..A_LEFT
@@ -218,7 +219,6 @@ fn trees_refused() {
         ),
         (
             5,
-            Refusal::Coordinate,
             Tree {
                 coords: &[f64::NAN; 8],
                 ..A_LEFT
@@ -226,7 +226,6 @@ fn trees_refused() {
         ),
         (
             6,
-            Refusal::Pivot,
             Tree {
                 stems: &[0.0, f64::NAN],
                 ..A_LEFT
@@ -234,7 +233,6 @@ fn trees_refused() {
         ),
         (
             7,
-            Refusal::Order,
             Tree {
                 stems: &[0.0, 3.0],
                 ..A_LEFT
@@ -243,15 +241,14 @@ fn trees_refused() {
     ];
     for lengths in [[4, 4], [3, 3], [4, 5]] {
         for k in [0, 5, u32::MAX] {
-            refused((1, 0), Refusal::Axes, k, [A_LEFT, A_RIGHT], lengths);
+            refused(1, 0, k, [A_LEFT, A_RIGHT], lengths);
         }
-        for (number, of, bad) in bad {
-            let (on_left, on_right) = (of(Side::Left), of(Side::Right));
-            refused((number, 0), on_left, 2, [bad, A_RIGHT], lengths);
-            refused((number, 1), on_right, 2, [A_RIGHT, bad], lengths);
-            refused((number, 0), on_left, 2, [bad, bad], lengths);
+        for (number, bad) in bad {
+            refused(number, 0, 2, [bad, A_RIGHT], lengths);
+            refused(number, 1, 2, [A_RIGHT, bad], lengths);
+            refused(number, 0, 2, [bad, bad], lengths);
             // An empty tree does not hide the other.
-            refused((number, 1), on_right, 2, [EMPTY[0], bad], lengths);
+            refused(number, 1, 2, [EMPTY[0], bad], lengths);
         }
     }
 }

@@ -13,15 +13,15 @@ use Rattle.written.specs.RadiusWalk.{Found, found}
 use Rattle.written.specs.Nearest.{Neighbour, nearest, no_points}
 use Rattle.written.specs.Totals.{none, walk_totals, near_totals}
 use Rattle.written.specs.Answers.{Answer, answered, PairRooms, NearRooms}
-use Rattle.written.specs.Calls.{left_broken, right_broken, PairsAnswer, pairs_tree_refused, pairs-given, pairs_rooms_differ, pairs_all_fit, pairs_some_fit}
-use Rattle.written.specs.Calls.{NearestAnswer, nearest_tree_refused, nearest-given, nearest_rooms_differ, nearest_room_short, nearest_no_points, nearest_written}
+use Rattle.written.specs.Calls.{left_broken, right_broken, PairsAnswer, pairs_tree_refused, pairs_rooms_differ, pairs_all_fit, pairs_some_fit}
+use Rattle.written.specs.Calls.{NearestAnswer, nearest_tree_refused, nearest_rooms_differ, nearest_room_short, nearest_no_points, nearest_written}
 use Rattle.written.specs.Answered.{pairs_mean, nearest_means}
 use Rattle.written.specs.Right.{nearest_for_each}
 use Rattle.written.specs.Laws.Points.{both_hold}
 use Rattle.printing.specs.Text.{pairs_word, count_word, nearest_word}
 use Rattle.printing.specs.Rows.{rows}
 use Rattle.printing.specs.Columns.{rows_of}
-use Rattle.answer.specs.declared.Answer.{Answer as Held}
+use Rattle.join.specs.declared.answer.Answer.{Answer as Held}
 use Rattle.join.specs.Told.{answer_of, PairsTold, CountsTold, NearestTold, with_rooms, with_near_rooms}
 use Rattle.job.specs.Printed.{blank, blank_distances, pair_rooms, near_rooms, answer_text, neighbours, pairs_text, counts_text, nearest_text}
 use Rattle.job.specs.Shown.{lines_by, lines_of}
@@ -45,12 +45,12 @@ module _ (j : Trees) (edge : Edge) (r : Float) where
   pairs_shown : {x : Answer × PairRooms} → PairsAnswer j edge r pair_rooms x → PairsShown x
   pairs_shown (pairs_tree_refused (left_broken f)) = (refl, omega arith)
   pairs_shown (pairs_tree_refused (right_broken k f)) = (refl, omega arith)
-  pairs_shown (pairs-given ok (pairs_rooms_differ d)) = (refl, omega arith)
-  pairs_shown (pairs-given ok (pairs_all_fit a h)) =
+  pairs_shown (pairs_rooms_differ ok d) = (refl, omega arith)
+  pairs_shown (pairs_all_fit ok a h) =
       let l = found j edge r in
       let e = rows_of l _ _ _ (column (λ x. x.left) l (drop (length l) blank)) (column (λ x. x.right) l (drop (length l) blank)) (column (λ x. x.distance) l (drop (length l) blank_distances)) in
       (ap (answer_text pairs_word (answered 0 (length l) (walk_totals j edge r false))) e, roomy h)
-  pairs_shown (pairs-given ok (pairs_some_fit a h)) = (refl, omega arith)
+  pairs_shown (pairs_some_fit ok a h) = (refl, omega arith)
 
   module _ (a : Held) (lefts rights : List ℕ) (distances : List Float) (told : PairsTold j edge r pair_rooms (with_rooms a lefts rights distances)) where
     here : PairsShown (answer_of a, (with_rooms a lefts rights distances).rooms)
@@ -126,10 +126,10 @@ module _ (j : Trees) where
   nearest_shown : {x : Answer × NearRooms} → NearestAnswer j near_rooms x → NearestShown x
   nearest_shown (nearest_tree_refused (left_broken f)) = (refl, omega arith, omega arith)
   nearest_shown (nearest_tree_refused (right_broken k f)) = (refl, omega arith, omega arith)
-  nearest_shown (nearest-given ok (nearest_rooms_differ d)) = (refl, omega arith, omega arith)
-  nearest_shown (nearest-given ok (nearest_room_short a e h)) = (refl, omega arith, omega arith)
-  nearest_shown (nearest-given ok (nearest_no_points a e)) = (ap (answer_text nearest_word (answered 0 0 none)) (no_lines e), omega arith, omega arith)
-  nearest_shown (nearest-given ok (nearest_written a e h)) =
+  nearest_shown (nearest_rooms_differ ok d) = (refl, omega arith, omega arith)
+  nearest_shown (nearest_room_short ok a e h) = (refl, omega arith, omega arith)
+  nearest_shown (nearest_no_points ok a e) = (ap (answer_text nearest_word (answered 0 0 none)) (no_lines e), omega arith, omega arith)
+  nearest_shown (nearest_written ok a e h) =
       let hold = both_hold j e in
       let each = nearest_for_each j ok hold.0 hold.1 in
       (ap (answer_text nearest_word (answered 0 (places j.left) (near_totals j))) (neighbour_rows j.left.items (nearest j) (drop (places j.left) blank) (drop (places j.left) blank_distances) each), roomy h, omega arith)

@@ -8,8 +8,8 @@ use Rattle.written.specs.LentTree.{Tree, places, leaves, stem_count}
 use Rattle.written.specs.Boxes.{Edge}
 use Rattle.written.specs.Check.{axes_ok, sizes_ok, lengths_ok, starts_ok, coords_ok, pivots_ok, order_ok, refusal}
 use Rattle.written.specs.Answers.{Answer, PairRooms, NearRooms, pairs_call, counts_call, nearest_call}
-use Rattle.written.specs.Calls.{TreeRefused, left_broken, right_broken, PairsAnswer, pairs_tree_refused, pairs-given, pairs_rooms_differ, pairs_all_fit, pairs_some_fit}
-use Rattle.written.specs.Calls.{NearestAnswer, nearest_tree_refused, nearest-given, nearest_rooms_differ, nearest_room_short, nearest_no_points, nearest_written}
+use Rattle.written.specs.Calls.{TreeRefused, left_broken, right_broken, PairsAnswer, pairs_tree_refused, pairs_rooms_differ, pairs_all_fit, pairs_some_fit}
+use Rattle.written.specs.Calls.{NearestAnswer, nearest_tree_refused, nearest_rooms_differ, nearest_room_short, nearest_no_points, nearest_written}
 use Rattle.written.specs.Calls.{CountsAnswer, counts_tree_refused, counts_told}
 use Rattle.written.specs.Answered.{pairs_mean, counts_mean, nearest_means}
 use Rattle.written.specs.Checked.{refusal_is_first, first_is_one}
@@ -121,9 +121,9 @@ module _ (s : List ℕ) (accepted : job_refusal s ≡ 0) where
 
   reached_by_pairs : (edge : Edge) (r : Float) {x : Answer × PairRooms} → PairsAnswer (trees s) edge r pair_rooms x → Reached x.0.number
   reached_by_pairs edge r (pairs_tree_refused t) = of_refusal t
-  reached_by_pairs edge r (pairs-given ok (pairs_rooms_differ d)) = absurd (d (refl, alike))
-  reached_by_pairs edge r (pairs-given ok (pairs_all_fit a h)) = answered
-  reached_by_pairs edge r (pairs-given ok (pairs_some_fit a h)) = of_the_room
+  reached_by_pairs edge r (pairs_rooms_differ ok d) = absurd (d (refl, alike))
+  reached_by_pairs edge r (pairs_all_fit ok a h) = answered
+  reached_by_pairs edge r (pairs_some_fit ok a h) = of_the_room
 
   reached_by_counts : (edge : Edge) (r : Float) {x : Answer} → CountsAnswer (trees s) edge r x → Reached x.number
   reached_by_counts edge r (counts_tree_refused t) = of_refusal t
@@ -131,10 +131,10 @@ module _ (s : List ℕ) (accepted : job_refusal s ≡ 0) where
 
   reached_by_nearest : {x : Answer × NearRooms} → NearestAnswer (trees s) near_rooms x → Reached x.0.number
   reached_by_nearest (nearest_tree_refused t) = of_refusal t
-  reached_by_nearest (nearest-given ok (nearest_rooms_differ d)) = absurd (d alike)
-  reached_by_nearest (nearest-given ok (nearest_room_short a e h)) = of_the_room
-  reached_by_nearest (nearest-given ok (nearest_no_points a e)) = answered
-  reached_by_nearest (nearest-given ok (nearest_written a e h)) = answered
+  reached_by_nearest (nearest_rooms_differ ok d) = absurd (d alike)
+  reached_by_nearest (nearest_room_short ok a e h) = of_the_room
+  reached_by_nearest (nearest_no_points ok a e) = answered
+  reached_by_nearest (nearest_written ok a e h) = answered
 
   pub pairs_reached : (edge : Edge) (r : Float) → Reached (pairs_call (trees s) edge r pair_rooms).0.number
   pairs_reached edge r = reached_by_pairs edge r ((pairs_mean (trees s) edge r pair_rooms _).1 refl)

@@ -3,7 +3,7 @@ use Rattle.std.specs.Prelude.{◌≡◌, List, ℕ, zero, suc, ◌≤◌, length
 use Rattle.written.specs.Answers.{stored}
 use Rattle.printing.specs.Puts.{Puts}
 use Rattle.job.specs.Printed.{printed}
-use Rattle.answer.specs.declared.Answer.{Answer as Held}
+use Rattle.join.specs.declared.answer.Answer.{Answer as Held}
 
 -- how many lines: those found, none of a refusal
 abbrev pub lines_by : (number : ℕ) → ℕ → ℕ

@@ -1,7 +1,6 @@
 // Both readings of the radius, by a value: "under", or else "up to".
 ghost use Rattle.metric.specs.Edges.{edge_of};
-ghost use Rattle.trees.specs.Lent.{trees_of};
-ghost use Rattle.answer.specs.Rooms.{rooms_of};
+ghost use Rattle.steps.specs.Lent.{trees_of, rooms_of};
 ghost use Rattle.join.specs.Told.{PairsTold, CountsTold, with_rooms};
 
 use join::Answer;

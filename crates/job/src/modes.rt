@@ -1,6 +1,6 @@
 // The joins that a job can ask for, each with its text.
 ghost use Rattle.metric.specs.Edges.{edge_of};
-ghost use Rattle.trees.specs.Lent.{trees_of};
+ghost use Rattle.steps.specs.Lent.{trees_of};
 ghost use Rattle.job.specs.Printed.{pairs_text, counts_text, nearest_text, join_text};
 ghost use Rattle.job.specs.Shown.{Prints};
 

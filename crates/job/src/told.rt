@@ -35,6 +35,5 @@ pub fn told(
     }
     let body = printing::head(&mut *out, kind, a.found);
     let end = printing::lines(&mut *out, body, n, lefts, rights, distances);
-    let totals = a.totals;
-    printing::totals(&mut *out, end, totals)
+    printing::totals(&mut *out, end, a.visits, a.measured, a.ruled, a.whole)
 }

@@ -9,19 +9,18 @@ use Rattle.written.specs.Boxes.{Trees, Edge}
 use Rattle.written.specs.NodePairs.{stem_levels}
 use Rattle.written.specs.RadiusWalk.{Found, all_against_all, found}
 use Rattle.written.specs.Totals.{Totals, none, walk_totals}
-use Rattle.written.specs.Answers.{Answer, refused, checked, left_refusal, right_refusal, Accepts, PairRooms, pair_rooms_agree, stored, room_number, pairsGiven}
-use Rattle.written.specs.Calls.{TreeRefused, PairRoomsAgree, pairs-given, pairs_rooms_differ}
+use Rattle.written.specs.Answers.{Answer, refused, checked, left_refusal, right_refusal, Accepts, PairRooms, pair_rooms_agree, stored, room_number, pairs_in}
+use Rattle.written.specs.Calls.{TreeRefused, PairRoomsAgree}
 use Rattle.written.specs.Right.{found_is_rearrangement, count_is_its_length}
 use Rattle.written.specs.Accounted.{totals_add_up}
 use Rattle.written.specs.Limits.{visits_bounded, pairs_take_none_whole}
-use Rattle.written.specs.Answered.{pairs_mean}
+use Rattle.written.specs.Answered.{rooms_agree}
 use Rattle.written.specs.Laws.Lists.{perm_length}
-use Rattle.written.specs.Laws.Tests.{at_most, exceeds}
+use Rattle.written.specs.Laws.Tests.{fails, at_most, exceeds}
 use Rattle.written.specs.Laws.Checked.{by_trees}
-use Rattle.written.specs.Laws.Given.{rooms_agree}
-use Rattle.answer.specs.declared.Answer.{Answer as Held}
+use Rattle.join.specs.declared.answer.Answer.{Answer as Held}
 use Rattle.join.specs.Told.{answer_of, Result, PairsTold, CountsTold}
-use Rattle.join.specs.Onward.{pairs_walked, pairs_walk, counts_walked, counts_walk}
+use Rattle.join.specs.Onward.{pairs_walked, pairs_differ, pairs_walk, counts_walked, counts_walk}
 
 -- ---- what each demand says
 
@@ -95,13 +94,13 @@ refused_untouched {Rooms} j b rest told bad =
 
 module _ (j : Trees) (edge : Edge) (radius : Float) (b : PairRooms) (r : Result PairRooms) (told : PairsTold j edge radius b r) where
   pub pairs_refused : (Accepts j → ⊥) → Refused j (answer_of r.answer) × (r.rooms ≡ b)
-  pairs_refused bad = refused_untouched j b (pairsGiven (found j edge radius) (walk_totals j edge radius false) b (pair_rooms_agree b)) told bad
+  pairs_refused bad = refused_untouched j b (pairs_in j edge radius b (pair_rooms_agree b)) told bad
 
   module _ (ok : Accepts j) where
     -- rule 8
     pub pairs_rooms_refused : (PairRoomsAgree b → ⊥) → (answer_of r.answer ≡ refused 8 0) × (r.rooms ≡ b)
     pairs_rooms_refused differ =
-        let e = told ∙ sym ((pairs_mean j edge radius b (refused 8 0, b)).0 (pairs-given ok (pairs_rooms_differ differ))) in
+        let e = told ∙ pairs_differ j edge radius b ok (fails (pair_rooms_agree b) (λ d. differ ((rooms_agree b).0 d))) in
         (ap (λ (x : Answer × PairRooms). x.0) e, ap (λ (x : Answer × PairRooms). x.1) e)
 
     module _ (agree : PairRoomsAgree b) where

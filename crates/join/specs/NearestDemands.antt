@@ -9,8 +9,8 @@ use Rattle.written.specs.Boxes.{Trees, distance as distance_of}
 use Rattle.written.specs.NodePairs.{stem_levels}
 use Rattle.written.specs.Nearest.{Neighbour, unset, answer_at, nearest, no_points}
 use Rattle.written.specs.Totals.{Totals, none, near_totals}
-use Rattle.written.specs.Answers.{Answer, answered, refused, Accepts, NearRooms, near_rooms_agree, near_room_ok, nearestGiven}
-use Rattle.written.specs.Calls.{NearRoomsAgree, NearestAnswer, nearest-given, nearest_rooms_differ, nearest_room_short, nearest_no_points, nearest_written}
+use Rattle.written.specs.Answers.{Answer, answered, refused, Accepts, NearRooms, near_rooms_agree, near_room_ok, nearest_in}
+use Rattle.written.specs.Calls.{NearRoomsAgree, NearestAnswer, nearest_rooms_differ, nearest_room_short, nearest_no_points, nearest_written}
 use Rattle.written.specs.Right.{nearest_for_each, nearest_least, nearest_item}
 use Rattle.written.specs.Accounted.{near_totals_add_up}
 use Rattle.written.specs.Limits.{near_visits_bounded, nearest_takes_none_whole}
@@ -108,7 +108,7 @@ module _ (j : Trees) (ok : Accepts j) (p : ℕ) (h : p < places j.left) (some : 
 
 module _ (j : Trees) (b : NearRooms) (r : Result NearRooms) (told : NearestTold j b r) where
   pub nearest_refused : (Accepts j → ⊥) → Refused j (answer_of r.answer) × (r.rooms ≡ b)
-  nearest_refused bad = refused_untouched j b (nearestGiven (nearest j) (near_totals j) b (near_rooms_agree b) (near_room_ok j b)) told bad
+  nearest_refused bad = refused_untouched j b (nearest_in j b (near_rooms_agree b) (near_room_ok j b)) told bad
 
   -- the row of the table that applies
   row_is : {x : Answer × NearRooms} → NearestAnswer j b x → (answer_of r.answer, r.rooms) ≡ x
@@ -120,11 +120,11 @@ module _ (j : Trees) (b : NearRooms) (r : Result NearRooms) (told : NearestTold 
   module _ (ok : Accepts j) where
     -- rule 8
     pub nearest_rooms_refused : (NearRoomsAgree b → ⊥) → (answer_of r.answer ≡ refused 8 0) × (r.rooms ≡ b)
-    nearest_rooms_refused differ = by_row (nearest-given ok (nearest_rooms_differ differ))
+    nearest_rooms_refused differ = by_row (nearest_rooms_differ ok differ)
 
     module _ (agree : NearRoomsAgree b) where
       none_written : no_points j ≡ true → (answer_of r.answer ≡ answered 0 0 none) × (r.rooms ≡ b)
-      none_written e = by_row (nearest-given ok (nearest_no_points agree e))
+      none_written e = by_row (nearest_no_points ok agree e)
 
       -- a tree without points: nothing is written, whatever the room, and all totals are 0
       pub nearest_of_none : (HoldPoints j → ⊥) → (answer_of r.answer ≡ answered 0 0 none) × (r.rooms ≡ b)
@@ -132,16 +132,16 @@ module _ (j : Trees) (b : NearRooms) (r : Result NearRooms) (told : NearestTold 
 
       -- rule 9, told beforehand, and then alone
       pub nearest_room_refused : (RoomShort j b → (answer_of r.answer ≡ refused 9 0) × (r.rooms ≡ b)) × ((answer_of r.answer).number ≡ 9 → RoomShort j b)
-      nearest_room_refused = (λ s. by_row (nearest-given ok (nearest_room_short agree (has_points j 0 0 s.0.0 s.0.1) s.1)), only (no_points j) refl (dec_lt (length b.distances) (places j.left)))
+      nearest_room_refused = (λ s. by_row (nearest_room_short ok agree (has_points j 0 0 s.0.0 s.0.1) s.1), only (no_points j) refl (dec_lt (length b.distances) (places j.left)))
         where
           only : (t : Bool) → no_points j ≡ t → Dec (length b.distances < places j.left) → (answer_of r.answer).number ≡ 9 → RoomShort j b
           only true e d nine = absurd (omega (arith, nine, ap (λ (a : Answer). a.number) (none_written e).0))
           only false e (yes h) nine = (both_hold j e, h)
-          only false e (no k) nine = absurd (omega (arith, nine, ap (λ (a : Answer). a.number) (by_row (nearest-given ok (nearest_written agree e (omega arith)))).0))
+          only false e (no k) nine = absurd (omega (arith, nine, ap (λ (a : Answer). a.number) (by_row (nearest_written ok agree e (omega arith))).0))
 
       pub nearest_right : HoldPoints j → places j.left ≤ length b.distances → NearestRight j b (answer_of r.answer) r.rooms
       nearest_right hold room =
-          let e = row_is (nearest-given ok (nearest_written agree (has_points j 0 0 hold.0 hold.1) room)) in
+          let e = row_is (nearest_written ok agree (has_points j 0 0 hold.0 hold.1) room) in
           let n = nearest_for_each j ok hold.0 hold.1 in
           subst (λ (x : Answer × NearRooms). NearestRight j b x.0 x.1) (sym e) (record {
             no_number = refl;

@@ -20,7 +20,7 @@ use Rattle.leafnearest.specs.Answers.{answers, Answering}
 use Rattle.steps.specs.declared.nodes.Nodes.{Nodes}
 use Rattle.steps.specs.declared.tally.Tally.{Tally}
 use Rattle.steps.specs.declared.waiting.Waiting.{Waiting}
-use Rattle.trees.specs.Lent.{stemless}
+use Rattle.steps.specs.Lent.{stemless}
 use Rattle.steps.specs.Standing.{pair_at}
 use Rattle.steps.specs.Counted.{totals_held, visited}
 use Rattle.steps.specs.Ending.{Leaves}

@@ -22,7 +22,7 @@ use Rattle.leafnearest.specs.Answers.{answers}
 use Rattle.steps.specs.declared.tally.Tally.{Tally}
 use Rattle.steps.specs.Counted.{totals_held}
 use Rattle.nearvisit.specs.Held.{Held, held_of}
-use Rattle.answer.specs.Rooms.{near_rooms_of}
+use Rattle.nearest.specs.Lent.{near_rooms_of}
 use Rattle.nearest.specs.Walked.{walked}
 use Rattle.nearest.specs.Executed.{Outcome, outcome_of, executed}
 use Rattle.nearest.proofs.FirstPlaces.{length_first, first_again, rest_stays}
@@ -90,7 +90,7 @@ module _ (j : Trees) (left : places j.left ≢ 0) (right : places j.right ≢ 0)
 
   -- what the walk left in the first places of the rooms is all that is stored there
   all_written : Accepts j → (items new : List ℕ) (dists near : List Float) (t : Tally) → (n ≤ length items) × (n ≤ length dists) → length new ≡ length near → held_of t new near ≡ walked j
-      → outcome_of (record { found = n; totals = t.totals }) (new ++ drop n items) (near ++ drop n dists) ≡ executed j (near_rooms_of items dists)
+      → outcome_of (record { found = n; visits = t.visits; measured = t.measured; ruled = t.ruled; whole = t.whole }) (new ++ drop n items) (near ++ drop n dists) ≡ executed j (near_rooms_of items dists)
   all_written ok items new dists near t room same done =
       let many : length (nearest j) ≡ n = nearest_for_each j ok (omega arith) (omega arith) in
       let found : answers new near ≡ nearest j = ap (λ (w : Held). w.answers) done in
@@ -111,7 +111,7 @@ module _ (j : Trees) (left : places j.left ≢ 0) (right : places j.right ≢ 0)
     began cleared = ap₂ answers again again_far ∙ cleared ∙ ap (λ (m : ℕ). replicate m unset) (length-take-le n items room.0)
 
     pub call_done : Accepts j → (new : List ℕ) (near : List Float) (t : Tally) → length new ≡ length (take n (first ++ drop n items)) → length near ≡ length (take n (far ++ drop n dists)) → held_of t new near ≡ walked j
-        → outcome_of (record { found = n; totals = t.totals }) (new ++ drop n (first ++ drop n items)) (near ++ drop n (far ++ drop n dists)) ≡ executed j (near_rooms_of items dists)
+        → outcome_of (record { found = n; visits = t.visits; measured = t.measured; ruled = t.ruled; whole = t.whole }) (new ++ drop n (first ++ drop n items)) (near ++ drop n (far ++ drop n dists)) ≡ executed j (near_rooms_of items dists)
     call_done ok new near t g h done =
         let same : length new ≡ length near = g ∙ ap length again ∙ length_first n items first room.0 e ∙ sym (h ∙ ap length again_far ∙ length_first n dists far room.1 f) in
         rw (rest_stays n items first room.0 e, rest_stays n dists far room.1 f) (all_written ok items new dists near t room same done)

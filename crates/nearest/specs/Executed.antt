@@ -6,7 +6,7 @@ use Rattle.written.specs.Totals.{Totals, near_totals}
 use Rattle.written.specs.Answers.{NearRooms, near_stored}
 use Rattle.steps.specs.declared.tally.Tally.{Tally}
 use Rattle.steps.specs.Counted.{totals_held}
-use Rattle.answer.specs.Rooms.{near_rooms_of}
+use Rattle.nearest.specs.Lent.{near_rooms_of}
 
 pub record Outcome : Type 0 where
   pub written : ℕ

@@ -3,9 +3,9 @@ ghost use Rattle.std.specs.Prelude.{◌≡◌, true, false, length, replicate};
 ghost use Rattle.written.specs.Nearest.{unset, no_points};
 ghost use Rattle.written.specs.Answers.{Accepts, near_rooms_agree, near_room_ok};
 ghost use Rattle.leafnearest.specs.Answers.{answers, Answering};
-ghost use Rattle.trees.specs.Lent.{trees_of};
+ghost use Rattle.steps.specs.Lent.{trees_of};
 ghost use Rattle.nearvisit.specs.Held.{held_of};
-ghost use Rattle.answer.specs.Rooms.{near_rooms_of};
+ghost use Rattle.nearest.specs.Lent.{near_rooms_of};
 ghost use Rattle.nearest.specs.Walked.{walked};
 ghost use Rattle.nearest.specs.Executed.{outcome_of, executed};
 

@@ -3,7 +3,7 @@ use Rattle.std.specs.Prelude.{List, [], ℕ, ◌≤◌, length, get_or, Float}
 use Rattle.written.specs.Boxes.{Trees}
 use Rattle.cursor.specs.Held.{node_of}
 use Rattle.steps.specs.declared.nodes.Nodes.{Nodes}
-use Rattle.trees.specs.Lent.{stemless}
+use Rattle.steps.specs.Lent.{stemless}
 use Rattle.steps.specs.Standing.{Within}
 
 -- where only the axes and the left tree's starts play a part

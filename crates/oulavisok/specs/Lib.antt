@@ -1,4 +1,2 @@
-pub mod Version
 pub mod Numbers
 pub mod Unique
-pub mod Growing

@@ -1,15 +1,27 @@
-// The joins for other languages. A slice is passed as pointer and length; the refusal's number is returned, and of the answer's other numbers as many are stored as `answer` has room for. No function demands anything.
-ghost use Rattle.std.specs.Prelude.{◌≡◌};
+// The joins for other languages: a slice is passed as pointer and length, the answer's numbers go to an array of six. No function demands anything.
+ghost use Rattle.std.specs.Prelude.{◌≡◌, length};
 ghost use Rattle.written.specs.Boxes.{up_to, under};
 ghost use Rattle.written.specs.Spacing.{radius_of};
-ghost use Rattle.trees.specs.Lent.{trees_of};
-ghost use Rattle.answer.specs.Rooms.{rooms_of, near_rooms_of};
-ghost use Rattle.oulavisok.specs.Version.{version};
-ghost use Rattle.oulavisok.specs.Numbers.{PairsNumbers, CountsNumbers, NearestNumbers, with_numbers, with_numbers_and_rooms, with_numbers_and_near_rooms};
+ghost use Rattle.steps.specs.Lent.{trees_of, rooms_of};
+ghost use Rattle.nearest.specs.Lent.{near_rooms_of};
+ghost use Rattle.oulavisok.specs.Numbers.{numbers, PairsNumbers, CountsNumbers, NearestNumbers, with_numbers, with_numbers_and_rooms, with_numbers_and_near_rooms};
 
-use crate::telling::tell;
+use join::Answer;
 
-mod telling;
+// Side, number found, visits, measured, ruled out, taken whole.
+fn tell(a: Answer, answer: &mut [u64]) -> u32
+    requires { length answer.old ≡ 6 }
+    ensures value { result ≡ a.number }
+    ensures answer_after { answer.new ≡ numbers a }
+{
+    answer[0] = a.side as u64;
+    answer[1] = a.found;
+    answer[2] = a.visits;
+    answer[3] = a.measured;
+    answer[4] = a.ruled;
+    answer[5] = a.whole;
+    a.number
+}
 
 #[unsafe(no_mangle)]
 pub extern "C" fn oul_pairs_up_to<'a>(
@@ -26,9 +38,9 @@ pub extern "C" fn oul_pairs_up_to<'a>(
     lout: &mut [u32],
     rout: &mut [u32],
     dout: &mut [f64],
-    answer: &mut [u64],
+    answer: &mut [u64; 6],
 ) -> u32
-    ensures { PairsNumbers (trees_of k lstarts.now lstems.now litems.now lcoords.now rstarts.now rstems.now ritems.now rcoords.now) up_to radius (rooms_of lout.old rout.old dout.old) answer.old (with_numbers_and_rooms result answer.new lout.new rout.new dout.new) }
+    ensures { PairsNumbers (trees_of k lstarts.now lstems.now litems.now lcoords.now rstarts.now rstems.now ritems.now rcoords.now) up_to radius (rooms_of lout.old rout.old dout.old) (with_numbers_and_rooms result answer.new lout.new rout.new dout.new) }
 {
     let a = join::pairs_up_to(
         k, radius, lstarts, lstems, litems, lcoords, rstarts, rstems, ritems, rcoords, &mut *lout,
@@ -52,9 +64,9 @@ pub extern "C" fn oul_pairs_under<'a>(
     lout: &mut [u32],
     rout: &mut [u32],
     dout: &mut [f64],
-    answer: &mut [u64],
+    answer: &mut [u64; 6],
 ) -> u32
-    ensures { PairsNumbers (trees_of k lstarts.now lstems.now litems.now lcoords.now rstarts.now rstems.now ritems.now rcoords.now) under radius (rooms_of lout.old rout.old dout.old) answer.old (with_numbers_and_rooms result answer.new lout.new rout.new dout.new) }
+    ensures { PairsNumbers (trees_of k lstarts.now lstems.now litems.now lcoords.now rstarts.now rstems.now ritems.now rcoords.now) under radius (rooms_of lout.old rout.old dout.old) (with_numbers_and_rooms result answer.new lout.new rout.new dout.new) }
 {
     let a = join::pairs_under(
         k, radius, lstarts, lstems, litems, lcoords, rstarts, rstems, ritems, rcoords, &mut *lout,
@@ -75,9 +87,9 @@ pub extern "C" fn oul_counts_up_to<'a>(
     rstems: &'a [f64],
     ritems: &[u32],
     rcoords: &[f64],
-    answer: &mut [u64],
+    answer: &mut [u64; 6],
 ) -> u32
-    ensures { CountsNumbers (trees_of k lstarts.now lstems.now litems.now lcoords.now rstarts.now rstems.now ritems.now rcoords.now) up_to radius answer.old (with_numbers result answer.new) }
+    ensures { CountsNumbers (trees_of k lstarts.now lstems.now litems.now lcoords.now rstarts.now rstems.now ritems.now rcoords.now) up_to radius (with_numbers result answer.new) }
 {
     let a = join::counts_up_to(
         k, radius, lstarts, lstems, litems, lcoords, rstarts, rstems, ritems, rcoords,
@@ -97,9 +109,9 @@ pub extern "C" fn oul_counts_under<'a>(
     rstems: &'a [f64],
     ritems: &[u32],
     rcoords: &[f64],
-    answer: &mut [u64],
+    answer: &mut [u64; 6],
 ) -> u32
-    ensures { CountsNumbers (trees_of k lstarts.now lstems.now litems.now lcoords.now rstarts.now rstems.now ritems.now rcoords.now) under radius answer.old (with_numbers result answer.new) }
+    ensures { CountsNumbers (trees_of k lstarts.now lstems.now litems.now lcoords.now rstarts.now rstems.now ritems.now rcoords.now) under radius (with_numbers result answer.new) }
 {
     let a = join::counts_under(
         k, radius, lstarts, lstems, litems, lcoords, rstarts, rstems, ritems, rcoords,
@@ -120,9 +132,9 @@ pub extern "C" fn oul_nearest<'a>(
     rcoords: &[f64],
     items: &mut [u32],
     dists: &mut [f64],
-    answer: &mut [u64],
+    answer: &mut [u64; 6],
 ) -> u32
-    ensures { NearestNumbers (trees_of k lstarts.now lstems.now litems.now lcoords.now rstarts.now rstems.now ritems.now rcoords.now) (near_rooms_of items.old dists.old) answer.old (with_numbers_and_near_rooms result answer.new items.new dists.new) }
+    ensures { NearestNumbers (trees_of k lstarts.now lstems.now litems.now lcoords.now rstarts.now rstems.now ritems.now rcoords.now) (near_rooms_of items.old dists.old) (with_numbers_and_near_rooms result answer.new items.new dists.new) }
 {
     let a = join::nearest(
         k,
@@ -145,12 +157,4 @@ pub extern "C" fn oul_radius_of(r: f64) -> f64
     ensures { result ≡ radius_of r }
 {
     join::radius_of(r)
-}
-
-// The version of what is exported here: callers built for another are told at once.
-#[unsafe(no_mangle)]
-pub extern "C" fn oul_version() -> u32
-    ensures { result ≡ version }
-{
-    1
 }

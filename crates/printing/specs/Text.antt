@@ -55,9 +55,6 @@ unfoldable pub lines : List Found → List ℕ
 lines [] = []
 lines (x ∷ l) = line x ++ lines l
 
--- last line: totals, each after its word
-abbrev pub named : (word : List ℕ) → ℕ → List ℕ
-named word n = word ++ decimal n
-
+-- last line: totals
 unfoldable pub totals_line : Totals → List ℕ
-totals_line t = named visits_word t.visits ++ named measured_word t.measured ++ named ruledout_word t.ruled_out ++ named whole_word t.whole ++ newline
+totals_line t = visits_word ++ decimal t.visits ++ measured_word ++ decimal t.measured ++ ruledout_word ++ decimal t.ruled_out ++ whole_word ++ decimal t.whole ++ newline

@@ -1,13 +1,11 @@
 // The lines of an answer.
 ghost use Rattle.std.specs.Prelude.{◌+◌, ◌*◌, ◌≤◌, length};
-ghost use Rattle.answer.specs.Told.{totalsIn};
-ghost use Rattle.printing.specs.Text.{line as line_of, lines as lines_of, first_line, refused_line, named as wordAnd, totals_line};
-ghost use Rattle.printing.specs.Rows.{found, rows};
+ghost use Rattle.printing.specs.Text.{line as line_of, lines as lines_of, first_line, refused_line, totals_line};
+ghost use Rattle.printing.specs.Rows.{found, rows, totalled};
 ghost use Rattle.printing.specs.Puts.{Puts};
 
 use crate::bytes::text;
 use crate::numerals::{decimal, hexadecimal};
-use answer::Totals;
 
 // `refused`, number and side.
 pub fn refused(out: &mut [u8], number: u32, side: u32) -> usize
@@ -69,25 +67,26 @@ pub fn lines(
     w
 }
 
-// A number after its word.
-fn named(out: &mut [u8], at: usize, word: &[u8], n: u64) -> usize
-    requires { (at ≤ 65200) × (length word.now ≤ 16) }
-    ensures puts { Puts out.old at (wordAnd word.now n) out.new result }
-    ensures upper_bound { result ≤ at + length word.now + 20 }
-{
-    let a = text(&mut *out, at, word);
-    decimal(&mut *out, a, n)
-}
-
 // The last line.
-pub fn totals(out: &mut [u8], at: usize, t: Totals) -> usize
+pub fn totals(
+    out: &mut [u8],
+    at: usize,
+    visits: u64,
+    measured: u64,
+    ruled: u64,
+    whole: u64,
+) -> usize
     requires { at ≤ 65000 }
-    ensures puts { Puts out.old at (totals_line (totalsIn t)) out.new result }
+    ensures puts { Puts out.old at (totals_line (totalled visits measured ruled whole)) out.new result }
     ensures upper_bound { result ≤ at + 120 }
 {
-    let a = named(&mut *out, at, b"visits ", t.visits);
-    let b = named(&mut *out, a, b" measured ", t.measured);
-    let c = named(&mut *out, b, b" ruledout ", t.ruled);
-    let d = named(&mut *out, c, b" whole ", t.whole);
-    text(&mut *out, d, b"\n")
+    let a = text(&mut *out, at, b"visits ");
+    let b = decimal(&mut *out, a, visits);
+    let c = text(&mut *out, b, b" measured ");
+    let d = decimal(&mut *out, c, measured);
+    let e = text(&mut *out, d, b" ruledout ");
+    let f = decimal(&mut *out, e, ruled);
+    let g = text(&mut *out, f, b" whole ");
+    let h = decimal(&mut *out, g, whole);
+    text(&mut *out, h, b"\n")
 }

@@ -16,7 +16,7 @@ use Rattle.leaf.specs.Kept.{keeps, of_leaves}
 use Rattle.rooms.specs.Rooms.{Filling, filling, puts}
 use Rattle.rooms.specs.Stored.{leaf_kept}
 use Rattle.steps.specs.declared.tally.Tally.{Tally}
-use Rattle.trees.specs.Lent.{stemless}
+use Rattle.steps.specs.Lent.{stemless}
 use Rattle.steps.specs.Counted.{totals_held, adding}
 use Rattle.steps.proofs.PlacesRead.{PlacesRead}
 use Rattle.radiusvisit.specs.Work.{Work, work_of, finding, after}

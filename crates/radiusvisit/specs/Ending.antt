@@ -8,9 +8,9 @@ use Rattle.radiusvisit.specs.Moves.{fate_of}
 -- what was counted so far is little enough to add to
 pub record Few (t : Tally) : Type 0 where
   pub found_few : t.found ≤ 2 ^ 32
-  pub measured_few : t.totals.measured ≤ 2 ^ 32
-  pub ruled_few : t.totals.ruled ≤ 2 ^ 32
-  pub whole_few : t.totals.whole ≤ 2 ^ 32
+  pub measured_few : t.measured ≤ 2 ^ 32
+  pub ruled_few : t.ruled ≤ 2 ^ 32
+  pub whole_few : t.whole ≤ 2 ^ 32
 
 -- only a count takes node pairs whole
 abbrev pub MayEnd : (counting : Bool) → Fate → Type 0

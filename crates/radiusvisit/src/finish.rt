@@ -4,7 +4,7 @@ ghost use Rattle.written.specs.Visits.{measured};
 ghost use Rattle.metric.specs.Edges.{edge_of};
 ghost use Rattle.metric.specs.Flat.{boxes_of};
 ghost use Rattle.rooms.specs.Rooms.{SameRooms};
-ghost use Rattle.trees.specs.Lent.{stemless};
+ghost use Rattle.steps.specs.Lent.{stemless};
 ghost use Rattle.steps.specs.Standing.{pair_at};
 ghost use Rattle.steps.specs.Ending.{Leaves};
 ghost use Rattle.radiusvisit.specs.Work.{work_of, after};

@@ -1,9 +1,9 @@
 // What a call answered and left in its rooms, against what is recorded.
 ghost use Rattle.std.specs.Prelude.{◌≡◌, true, ◌+◌, ◌*◌, ◌/◌, ◌≤◌, length};
 ghost use Rattle.replay.specs.Same.{Bits, PairAt, Stored, Empty, Untouched};
-ghost use Rattle.replay.specs.Recorded.{Recorded, SameTotals, Alike};
+ghost use Rattle.replay.specs.Recorded.{Recorded, Alike};
 
-use join::{Answer, Totals};
+use join::Answer;
 use reading::{u32_at, u64_at};
 
 // What the rooms are filled with before a call. No recorded item is this number (a nearest answer has it for the left item, which has no room), and no distance is negative.
@@ -22,29 +22,11 @@ fn recorded(s: &[u8]) -> Answer
         number: u32_at(s, 0),
         side: u32_at(s, 4),
         found: u64_at(s, 8),
-        totals: Totals {
-            visits: u64_at(s, 16),
-            measured: u64_at(s, 24),
-            ruled: u64_at(s, 32),
-            whole: u64_at(s, 40),
-        },
+        visits: u64_at(s, 16),
+        measured: u64_at(s, 24),
+        ruled: u64_at(s, 32),
+        whole: u64_at(s, 40),
     }
-}
-
-// Whether totals agree in every field.
-fn same_totals(t: Totals, u: Totals) -> bool
-    ensures { result ≡ true → SameTotals t u }
-{
-    if t.visits != u.visits {
-        return false;
-    }
-    if t.measured != u.measured {
-        return false;
-    }
-    if t.ruled != u.ruled {
-        return false;
-    }
-    t.whole == u.whole
 }
 
 // Whether two answers agree in every field.
@@ -60,9 +42,16 @@ fn alike(a: Answer, b: Answer) -> bool
     if a.found != b.found {
         return false;
     }
-    let t = a.totals;
-    let u = b.totals;
-    same_totals(t, u)
+    if a.visits != b.visits {
+        return false;
+    }
+    if a.measured != b.measured {
+        return false;
+    }
+    if a.ruled != b.ruled {
+        return false;
+    }
+    a.whole == b.whole
 }
 
 // Whether an answer is the one that a record holds.

@@ -2,11 +2,10 @@
 use Rattle.std.specs.Prelude.{ℕ, suc, ◌+◌, ◌*◌}
 use Rattle.written.specs.Visits.{Fate, measured, ruled, whole, is}
 use Rattle.written.specs.Totals.{Totals}
-use Rattle.answer.specs.Told.{totalsIn}
 use Rattle.steps.specs.declared.tally.Tally.{Tally}
 
 abbrev pub totals_held : Tally → Totals
-totals_held t = totalsIn t.totals
+totals_held t = record { visits = t.visits; measured = t.measured; ruled_out = t.ruled; whole = t.whole }
 
 -- one node pair more is examined
 abbrev pub visited : Totals → Totals

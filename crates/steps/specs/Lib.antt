@@ -1,3 +1,4 @@
+pub mod Lent
 pub mod Standing
 pub mod Counted
 pub mod Ending

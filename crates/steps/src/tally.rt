@@ -1,15 +1,16 @@
-// What a walk has counted: pairs found, and the totals.
+// What a walk has counted: pairs found, node pairs visited, and the pairs of places measured, ruled out and taken whole.
 ghost use Rattle.std.specs.Prelude.{◌≡◌, ◌+◌, ◌^◌, ◌<◌};
 ghost use Rattle.written.specs.Totals.{none};
 ghost use Rattle.written.specs.Visits.{ruled, whole, measured};
 ghost use Rattle.steps.specs.Counted.{totals_held, visited, adding};
 
-use answer::Totals;
-
 #[derive(Drop)]
 pub struct Tally {
     pub found: u64,
-    pub totals: Totals,
+    pub visits: u64,
+    pub measured: u64,
+    pub ruled: u64,
+    pub whole: u64,
 }
 
 impl Tally {
@@ -18,57 +19,51 @@ impl Tally {
     {
         Self {
             found: 0,
-            totals: Totals {
-                visits: 0,
-                measured: 0,
-                ruled: 0,
-                whole: 0,
-            },
+            visits: 0,
+            measured: 0,
+            ruled: 0,
+            whole: 0,
         }
     }
 
     // One node pair more is examined.
     pub fn visited(self) -> Self
-        requires { self.totals.visits < 2 ^ 63 }
+        requires { self.visits < 2 ^ 63 }
         ensures { (result.found ≡ self.found) × (totals_held result ≡ visited (totals_held self)) }
     {
         let mut t = self;
-        let visits = t.totals.visits + 1;
-        t.totals.visits = visits;
+        t.visits = t.visits + 1;
         t
     }
 
     // n pairs of places are ruled out.
     pub fn ruled_out(self, n: u64) -> Self
-        requires { self.totals.ruled + n < 2 ^ 63 }
+        requires { self.ruled + n < 2 ^ 63 }
         ensures { (result.found ≡ self.found) × (totals_held result ≡ adding ruled n (totals_held self)) }
     {
         let mut t = self;
-        let ruled = t.totals.ruled + n;
-        t.totals.ruled = ruled;
+        t.ruled = t.ruled + n;
         t
     }
 
     // n pairs of places are taken whole, and so found.
     pub fn taken_whole(self, n: u64) -> Self
-        requires { (self.totals.whole + n < 2 ^ 63) × (self.found + n < 2 ^ 63) }
+        requires { (self.whole + n < 2 ^ 63) × (self.found + n < 2 ^ 63) }
         ensures { (result.found ≡ self.found + n) × (totals_held result ≡ adding whole n (totals_held self)) }
     {
         let mut t = self;
-        let whole = t.totals.whole + n;
-        t.totals.whole = whole;
+        t.whole = t.whole + n;
         t.found = t.found + n;
         t
     }
 
     // n pairs of places are measured; `found` are found by now.
     pub fn measured(self, n: u64, found: u64) -> Self
-        requires { self.totals.measured + n < 2 ^ 63 }
+        requires { self.measured + n < 2 ^ 63 }
         ensures { (result.found ≡ found) × (totals_held result ≡ adding measured n (totals_held self)) }
     {
         let mut t = self;
-        let measured = t.totals.measured + n;
-        t.totals.measured = measured;
+        t.measured = t.measured + n;
         t.found = found;
         t
     }

@@ -3,8 +3,7 @@ ghost use Rattle.std.specs.Prelude.{◌≡◌};
 ghost use Rattle.written.specs.Answers.{Accepts};
 ghost use Rattle.metric.specs.Edges.{edge_of};
 ghost use Rattle.rooms.specs.Rooms.{SameRooms};
-ghost use Rattle.trees.specs.Lent.{trees_of};
-ghost use Rattle.answer.specs.Rooms.{rooms_of};
+ghost use Rattle.steps.specs.Lent.{trees_of, rooms_of};
 ghost use Rattle.radiusvisit.specs.Work.{work_of};
 ghost use Rattle.traversal.specs.Walked.{walked};
 

@@ -27,10 +27,6 @@ checked refuse zero zero goesOn = goesOn
 checked refuse zero (suc n) goesOn = refuse (suc n) 1
 checked refuse (suc n) right goesOn = refuse (suc n) 0
 
--- the number and the side that are told; 0 and 0 where neither side is refused
-abbrev pub told : (left right : ℕ) → ℕ × ℕ
-told left right = checked (λ number side. (number, side)) left right (0, 0)
-
 abbrev pub left_refusal : Trees → ℕ
 left_refusal j = refusal j.axes j.left
 
@@ -63,13 +59,15 @@ pairs_stored l b = record { lefts = stored (map (λ x. x.left) l) b.lefts; right
 abbrev pub room_number : ℕ → ℕ → ℕ
 room_number n room = cond (leb n room) 0 9
 
--- what a list of pairs and its totals become in rooms, whatever engine found them
-abbrev pub pairsGiven : List Found → Totals → PairRooms → (agree : Bool) → Answer × PairRooms
-pairsGiven l totals b false = (refused 8 0, b)
-pairsGiven l totals b true = (answered (room_number (length l) (length b.distances)) (length l) totals, pairs_stored l b)
+unfoldable pub pairs_in : Trees → Edge → Float → PairRooms → Bool → Answer × PairRooms
+unfolding found walk_totals stored
+pairs_in j edge radius b false = (refused 8 0, b)
+pairs_in j edge radius b true =
+    let l = found j edge radius in
+    (answered (room_number (length l) (length b.distances)) (length l) (walk_totals j edge radius false), pairs_stored l b)
 
 abbrev pub pairs_call : Trees → Edge → Float → PairRooms → Answer × PairRooms
-pairs_call j edge radius b = checked (λ n side. (refused n side, b)) (left_refusal j) (right_refusal j) (pairsGiven (found j edge radius) (walk_totals j edge radius false) b (pair_rooms_agree b))
+pairs_call j edge radius b = checked (λ n side. (refused n side, b)) (left_refusal j) (right_refusal j) (pairs_in j edge radius b (pair_rooms_agree b))
 
 -- ---- counts fill none
 
@@ -92,11 +90,11 @@ near_stored l b = record { items = stored (map (λ x. x.item) l) b.items; distan
 abbrev pub near_room_ok : Trees → NearRooms → Bool
 near_room_ok j b = no_points j || leb (places j.left) (length b.distances)
 
--- what a list of neighbours and its totals become in rooms, whatever engine found them
-abbrev pub nearestGiven : List Neighbour → Totals → NearRooms → (agree enough : Bool) → Answer × NearRooms
-nearestGiven l totals b false enough = (refused 8 0, b)
-nearestGiven l totals b true false = (refused 9 0, b)
-nearestGiven l totals b true true = (answered 0 (length l) totals, near_stored l b)
+unfoldable pub nearest_in : Trees → NearRooms → (agree enough : Bool) → Answer × NearRooms
+unfolding nearest near_totals stored
+nearest_in j b false enough = (refused 8 0, b)
+nearest_in j b true false = (refused 9 0, b)
+nearest_in j b true true = let l = nearest j in (answered 0 (length l) (near_totals j), near_stored l b)
 
 abbrev pub nearest_call : Trees → NearRooms → Answer × NearRooms
-nearest_call j b = checked (λ n side. (refused n side, b)) (left_refusal j) (right_refusal j) (nearestGiven (nearest j) (near_totals j) b (near_rooms_agree b) (near_room_ok j b))
+nearest_call j b = checked (λ n side. (refused n side, b)) (left_refusal j) (right_refusal j) (nearest_in j b (near_rooms_agree b) (near_room_ok j b))

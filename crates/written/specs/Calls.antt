@@ -5,7 +5,7 @@ use Rattle.written.specs.LentTree.{places}
 use Rattle.written.specs.Boxes.{Trees, Edge}
 use Rattle.written.specs.RadiusWalk.{Found, found, count}
 use Rattle.written.specs.Nearest.{Neighbour, nearest, no_points}
-use Rattle.written.specs.Totals.{Totals, none, walk_totals, near_totals}
+use Rattle.written.specs.Totals.{none, walk_totals, near_totals}
 use Rattle.written.specs.Answers.{Answer, answered, refused, Accepts, PairRooms, NearRooms}
 use Rattle.written.specs.Rules.{FirstBroken}
 
@@ -41,30 +41,16 @@ first_stored l b = record {
 abbrev pub answers_stored : ℕ → List Neighbour → NearRooms → NearRooms
 answers_stored n l b = record { items = map (λ x. x.item) l ++ drop n b.items; distances = map (λ x. x.distance) l ++ drop n b.distances }
 
--- ---- rules 8 and 9: what a list and its totals become in rooms, whatever engine found them
-
-pub data PairsGiven (l : List Found) (totals : Totals) (b : PairRooms) : Answer × PairRooms → Type 0 where
-  -- 8: outputs untouched, totals 0
-  pairs_rooms_differ : (PairRoomsAgree b → ⊥) → PairsGiven l totals b (refused 8 0, b)
-  -- 0, and 9: all are counted, with full totals
-  pairs_all_fit : PairRoomsAgree b → length l ≤ length b.distances → PairsGiven l totals b (answered 0 (length l) totals, all_stored l b)
-  pairs_some_fit : PairRoomsAgree b → length b.distances < length l → PairsGiven l totals b (answered 9 (length l) totals, first_stored l b)
-
-pub data NearestGiven (j : Trees) (l : List Neighbour) (totals : Totals) (b : NearRooms) : Answer × NearRooms → Type 0 where
-  -- 8 and 9: outputs untouched, totals 0
-  nearest_rooms_differ : (NearRoomsAgree b → ⊥) → NearestGiven j l totals b (refused 8 0, b)
-  nearest_room_short : NearRoomsAgree b → no_points j ≡ false → length b.distances < places j.left → NearestGiven j l totals b (refused 9 0, b)
-  -- 0: a tree holds no points, so nothing is written and all totals are 0; or there is an answer for each left place
-  nearest_no_points : NearRoomsAgree b → no_points j ≡ true → NearestGiven j l totals b (answered 0 0 none, b)
-  nearest_written : NearRoomsAgree b → no_points j ≡ false → places j.left ≤ length b.distances
-      → NearestGiven j l totals b (answered 0 (places j.left) totals, answers_stored (places j.left) l b)
-
--- ---- the calls: 1 to 7 leave outputs untouched and totals 0; then the rooms, or for counts none
-
 module _ (j : Trees) (edge : Edge) (radius : Float) where
   pub data PairsAnswer (b : PairRooms) : Answer × PairRooms → Type 0 where
+    -- 1 to 7 and 8: outputs untouched, totals 0
     pairs_tree_refused : {number side : ℕ} → TreeRefused j number side → PairsAnswer b (refused number side, b)
-    pairs-given : {x : Answer × PairRooms} → Accepts j → PairsGiven (found j edge radius) (walk_totals j edge radius false) b x → PairsAnswer b x
+    pairs_rooms_differ : Accepts j → (PairRoomsAgree b → ⊥) → PairsAnswer b (refused 8 0, b)
+    -- 0, and 9: all are counted, with full totals
+    pairs_all_fit : Accepts j → PairRoomsAgree b → length (found j edge radius) ≤ length b.distances
+        → PairsAnswer b (answered 0 (length (found j edge radius)) (walk_totals j edge radius false), all_stored (found j edge radius) b)
+    pairs_some_fit : Accepts j → PairRoomsAgree b → length b.distances < length (found j edge radius)
+        → PairsAnswer b (answered 9 (length (found j edge radius)) (walk_totals j edge radius false), first_stored (found j edge radius) b)
 
   pub data CountsAnswer : Answer → Type 0 where
     counts_tree_refused : {number side : ℕ} → TreeRefused j number side → CountsAnswer (refused number side)
@@ -72,5 +58,11 @@ module _ (j : Trees) (edge : Edge) (radius : Float) where
 
 module _ (j : Trees) where
   pub data NearestAnswer (b : NearRooms) : Answer × NearRooms → Type 0 where
+    -- 1 to 7, 8 and 9: outputs untouched, totals 0
     nearest_tree_refused : {number side : ℕ} → TreeRefused j number side → NearestAnswer b (refused number side, b)
-    nearest-given : {x : Answer × NearRooms} → Accepts j → NearestGiven j (nearest j) (near_totals j) b x → NearestAnswer b x
+    nearest_rooms_differ : Accepts j → (NearRoomsAgree b → ⊥) → NearestAnswer b (refused 8 0, b)
+    nearest_room_short : Accepts j → NearRoomsAgree b → no_points j ≡ false → length b.distances < places j.left → NearestAnswer b (refused 9 0, b)
+    -- 0: a tree holds no points, so nothing is written and all totals are 0; or there is an answer for each left place
+    nearest_no_points : Accepts j → NearRoomsAgree b → no_points j ≡ true → NearestAnswer b (answered 0 0 none, b)
+    nearest_written : Accepts j → NearRoomsAgree b → no_points j ≡ false → places j.left ≤ length b.distances
+        → NearestAnswer b (answered 0 (places j.left) (near_totals j), answers_stored (places j.left) (nearest j) b)

@@ -18,4 +18,3 @@ pub mod Accepted
 pub mod Points
 pub mod Rooms
 pub mod Checked
-pub mod Given

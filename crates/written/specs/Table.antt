@@ -3,11 +3,11 @@ use Rattle.std.specs.Prelude.{◌≡◌, List, [], ◌∷◌, map, ℕ, replicat
 use Rattle.std.specs.Float.{nan, binary64}
 use Rattle.std.specs.Float.Ieee.{of_int}
 use Rattle.written.specs.Boxes.{Trees, Edge}
-use Rattle.written.specs.RadiusWalk.{Found, found, count}
-use Rattle.written.specs.Nearest.{Neighbour, nearest}
-use Rattle.written.specs.Totals.{Totals, walk_totals, near_totals}
+use Rattle.written.specs.RadiusWalk.{Found, count}
+use Rattle.written.specs.Nearest.{Neighbour}
+use Rattle.written.specs.Totals.{Totals, walk_totals}
 use Rattle.written.specs.Check.{refusal}
-use Rattle.written.specs.Answers.{Answer, answered, refused, PairRooms, stored, pairs_call, counts_call, NearRooms, nearest_call}
+use Rattle.written.specs.Answers.{Answer, answered, refused, PairRooms, pairs_call, pairs_in, counts_call, NearRooms, nearest_call, nearest_in}
 
 -- ---- what is asked
 
@@ -58,7 +58,7 @@ abbrev pub near_rooms : ℕ → ℕ → NearRooms
 near_rooms is ds = record { items = replicate is blank_near.item; distances = replicate ds blank_near.distance }
 
 unfoldable pub outcome : Ask → Outcome
-unfolding found nearest near_totals stored count walk_totals refusal
+unfolding pairs_in nearest_in count walk_totals refusal
 outcome (pairs j edge radius room) = of_pairs (pairs_call j edge radius (pair_rooms room room room))
 outcome (uneven_pairs j edge radius ls rs ds) = of_pairs (pairs_call j edge radius (pair_rooms ls rs ds))
 outcome (count_of j edge radius) = record { answer = counts_call j edge radius; pairs = []; near = [] }

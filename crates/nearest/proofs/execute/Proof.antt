@@ -7,7 +7,7 @@ use lib.ListN.{length, drop}
 use lib.Seq.{length-take-le}
 use borrow.Author.Rules.{rules}
 use Rattle.written.specs.Boxes.{Trees}
-use Rattle.trees.specs.Lent.{trees_of}
+use Rattle.steps.specs.Lent.{trees_of}
 use Rattle.nearest.proofs.FirstPlaces.{still_room}
 use Rattle.nearest.proofs.Whole.{left_empty, right_empty, nothing_done, points, room_for_all, began, call_done}
 use Rattle.nearest.proofs.execute.Statement.{statement}

@@ -13,7 +13,7 @@ use Rattle.written.specs.Answers.{Accepts}
 use Rattle.metric.specs.Flat.{boxes_of}
 use Rattle.leafnearest.specs.Answers.{Answering}
 use Rattle.steps.specs.declared.waiting.Popped.TheVariants.{Entry}
-use Rattle.trees.specs.Lent.{trees_of}
+use Rattle.steps.specs.Lent.{trees_of}
 use Rattle.steps.proofs.Halves.{put_raised}
 use Rattle.steps.proofs.Waits.{view, taken, pop_takes, some_taken}
 use Rattle.steps.proofs.Reading.{keeps, ordered_both}
@@ -42,7 +42,7 @@ invariant-loop k lstarts lstems litems lcoords rstarts rstems ritems rcoords ite
 
 abbrev decreases-loop : tie.decreases-loop
 decreases-loop k lstarts lstems litems lcoords rstarts rstems ritems rcoords items₀ dists₀ at₀ b₀ t₀ stack₀ len₀ here₀ items dists at b t stack len here =
-    3 * ((near_totals (trees_of k lstarts lstems litems lcoords rstarts rstems ritems rcoords)).visits - t.totals.visits) + len + idle here
+    3 * ((near_totals (trees_of k lstarts lstems litems lcoords rstarts rstems ritems rcoords)).visits - t.visits) + len + idle here
 
 -- ---- the way up from each place to where its turn began: all that a change of the code moves
 

@@ -1,7 +1,7 @@
 -- The join's answer, told in numbers. Assumes nothing.
 use borrow.Author.Rules.{rules}
-use Rattle.trees.specs.Lent.{trees_of}
-use Rattle.answer.specs.Rooms.{near_rooms_of}
+use Rattle.steps.specs.Lent.{trees_of}
+use Rattle.nearest.specs.Lent.{near_rooms_of}
 use Rattle.oulavisok.proofs.Telling.{nearest_numbers}
 use Rattle.oulavisok.proofs.oul_nearest.Statement.{statement}
 use Rattle.oulavisok.proofs.oul_nearest.Tie as tie
@@ -23,7 +23,7 @@ returns c =
     let j = c.before.before.before.before.before.before in
     let s = j.before.before.before.before.before.before.before.before.before.before.before.before.before.args in
     let trees = trees_of s.k s.lstarts.now s.lstems.now s.litems.now s.lcoords.now s.rstarts.now s.rstems.now s.ritems.now s.rcoords.now in
-    nearest_numbers s.answer.now c.tell.ensures.0 c.tell.ensures.1 trees (near_rooms_of s.items.now s.dists.now) j.nearest.ensures
+    nearest_numbers trees (near_rooms_of s.items.now s.dists.now) j.nearest.ensures c.tell.ensures.0 c.tell.ensures.1
 
 pub oul-nearest-spec : {M : Type 1} → statement M
 oul-nearest-spec = tie.close (tie.spec nearest-requires tell-requires same_length same-length-2 returns)

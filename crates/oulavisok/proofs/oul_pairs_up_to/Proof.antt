@@ -1,8 +1,7 @@
 -- The join's answer, told in numbers. Assumes nothing.
 use borrow.Author.Rules.{rules}
 use Rattle.written.specs.Boxes.{up_to}
-use Rattle.trees.specs.Lent.{trees_of}
-use Rattle.answer.specs.Rooms.{rooms_of}
+use Rattle.steps.specs.Lent.{trees_of, rooms_of}
 use Rattle.oulavisok.proofs.Telling.{pairs_numbers}
 use Rattle.oulavisok.proofs.oul_pairs_up_to.Statement.{statement}
 use Rattle.oulavisok.proofs.oul_pairs_up_to.Tie as tie
@@ -27,7 +26,7 @@ returns c =
     let j = c.before.before.before.before.before.before.before.before in
     let s = j.before.before.before.before.before.before.before.before.before.before.before.before.before.before.before.args in
     let trees = trees_of s.k s.lstarts.now s.lstems.now s.litems.now s.lcoords.now s.rstarts.now s.rstems.now s.ritems.now s.rcoords.now in
-    pairs_numbers s.answer.now c.tell.ensures.0 c.tell.ensures.1 trees up_to s.radius (rooms_of s.lout.now s.rout.now s.dout.now) j.pairs-up-to.ensures
+    pairs_numbers trees up_to s.radius (rooms_of s.lout.now s.rout.now s.dout.now) j.pairs-up-to.ensures c.tell.ensures.0 c.tell.ensures.1
 
 pub oul-pairs-up-to-spec : {M : Type 1} → statement M
 oul-pairs-up-to-spec = tie.close (tie.spec pairs-up-to-requires tell-requires same_length same-length-2 same-length-3 returns)

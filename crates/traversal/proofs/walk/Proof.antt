@@ -14,8 +14,7 @@ use Rattle.metric.specs.Edges.{edge_of}
 use Rattle.metric.specs.Flat.{boxes_of}
 use Rattle.rooms.specs.Rooms.{SameRooms}
 use Rattle.steps.specs.declared.waiting.Popped.TheVariants.{Entry}
-use Rattle.trees.specs.Lent.{trees_of}
-use Rattle.answer.specs.Rooms.{rooms_of}
+use Rattle.steps.specs.Lent.{trees_of, rooms_of}
 use Rattle.steps.proofs.Waits.{view, taken, pop_takes, some_taken}
 use Rattle.steps.proofs.Reading.{keeps, ordered_both, leaves_read}
 use Rattle.steps.proofs.Going.{Going, start, at_hand, none_at_hand, room}
@@ -47,7 +46,7 @@ invariant-loop k radius under counting lstarts lstems litems lcoords rstarts rst
 
 abbrev decreases-loop : tie.decreases-loop
 decreases-loop k radius under counting lstarts lstems litems lcoords rstarts rstems ritems rcoords lout₀ rout₀ dout₀ at₀ b₀ t₀ stack₀ len₀ here₀ lout rout dout at b t stack len here =
-    3 * ((walk_totals (trees_of k lstarts lstems litems lcoords rstarts rstems ritems rcoords) (edge_of under) radius counting).visits - t.totals.visits) + len + idle here
+    3 * ((walk_totals (trees_of k lstarts lstems litems lcoords rstarts rstems ritems rcoords) (edge_of under) radius counting).visits - t.visits) + len + idle here
 
 -- ---- the way up from each place to where its turn began: all that a change of the code moves
 

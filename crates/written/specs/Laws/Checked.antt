@@ -1,10 +1,10 @@
 -- How a call begins: both trees are accepted and it goes on, or one is refused. Assumes nothing.
-use Rattle.std.specs.Prelude.{◌≡◌, refl, ℕ, zero, suc, ◌<◌}
-use Rattle.std.proofs.Common.{sym, ap, subst, arith}
+use Rattle.std.specs.Prelude.{◌≡◌, refl, ℕ, zero, suc}
+use Rattle.std.proofs.Common.{subst}
 use Rattle.written.specs.LentTree.{Tree}
 use Rattle.written.specs.Check.{refusal}
 use Rattle.written.specs.Boxes.{Trees}
-use Rattle.written.specs.Answers.{checked, told, left_refusal, right_refusal, Accepts}
+use Rattle.written.specs.Answers.{checked, left_refusal, right_refusal, Accepts}
 use Rattle.written.specs.Rules.{FirstBroken}
 use Rattle.written.specs.Calls.{TreeRefused, left_broken, right_broken}
 use Rattle.written.specs.Checked.{refusal_is_first, first_is_one}
@@ -35,22 +35,3 @@ module _ (j : Trees) {X : Type 0} (refuse : ℕ → ℕ → X) (goesOn : X) wher
       go zero e zero f = of-rest (e, f)
       go zero e (suc n) f = of_refusal (suc n) 1 (right_broken (first_at j.axes j.left e) (first_at j.axes j.right f))
       go (suc n) e r f = of_refusal (suc n) 0 (left_broken (first_at j.axes j.left e))
-
--- ---- by the two sides' numbers alone, whatever check gave them
-
-abbrev number : ℕ × ℕ → ℕ
-number x = x.0
-
-pub both_accepted : (left right : ℕ) {n s : ℕ} → (n, s) ≡ told left right → n ≡ 0 → (left ≡ 0) × (right ≡ 0)
-both_accepted zero zero e z = (refl, refl)
-both_accepted zero (suc m) e z = absurd (omega (arith, ap number e))
-both_accepted (suc m) right e z = absurd (omega (arith, ap number e))
-
-module _ {X : Type 0} (refuse : ℕ → ℕ → X) (goesOn : X) where
-  pub checked_refused : (left right : ℕ) {n s : ℕ} → (n, s) ≡ told left right → 0 < n → checked refuse left right goesOn ≡ refuse n s
-  checked_refused zero zero e h = absurd (omega (arith, ap number e))
-  checked_refused zero (suc m) e h = sym (ap (λ (x : ℕ × ℕ). refuse x.0 x.1) e)
-  checked_refused (suc m) right e h = sym (ap (λ (x : ℕ × ℕ). refuse x.0 x.1) e)
-
-  pub checked-accepted : (left right : ℕ) → left ≡ 0 → right ≡ 0 → checked refuse left right goesOn ≡ goesOn
-  checked-accepted left right e f = rw (e, f) refl

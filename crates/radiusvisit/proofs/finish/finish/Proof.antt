@@ -8,7 +8,7 @@ use Rattle.written.specs.Visits.{measured, ruled, whole}
 use Rattle.written.specs.Boxes.{Trees}
 use Rattle.written.specs.NodePairs.{NodePair, area}
 use Rattle.metric.specs.Flat.{boxes_of}
-use Rattle.trees.specs.Lent.{stemless}
+use Rattle.steps.specs.Lent.{stemless}
 use Rattle.steps.specs.Standing.{pair_at}
 use Rattle.steps.proofs.PlacesRead.{area_few}
 use Rattle.radiusvisit.specs.Moves.{fate_of}

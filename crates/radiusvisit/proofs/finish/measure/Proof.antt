@@ -10,7 +10,7 @@ use Rattle.written.specs.RadiusWalk.{Found}
 use Rattle.metric.specs.Flat.{boxes_of}
 use Rattle.leaf.specs.Lent.{LeafPair}
 use Rattle.leaf.specs.Fits.{leaf_fits}
-use Rattle.trees.specs.Lent.{stemless}
+use Rattle.steps.specs.Lent.{stemless}
 use Rattle.steps.specs.Standing.{pair_at}
 use Rattle.steps.proofs.PlacesRead.{area_few, PlacesRead, leaves_read}
 use Rattle.radiusvisit.proofs.Ended.{leaf_loops, measured_count, measured_pairs}

@@ -22,10 +22,10 @@ returns-2 c e =
       number = same.number ∙ held.number;
       side = same.side ∙ held.side;
       found = same.found ∙ held.found;
-      visits = same.totals.visits ∙ held.visits;
-      measured = same.totals.measured ∙ held.decreases;
-      ruled = same.totals.ruled ∙ held.ruled;
-      whole = same.totals.whole ∙ held.whole;
+      visits = same.visits ∙ held.visits;
+      measured = same.decreases ∙ held.decreases;
+      ruled = same.ruled ∙ held.ruled;
+      whole = same.whole ∙ held.whole;
     }
 
 pub answer-spec : {M : Type 1} → statement M

@@ -5,11 +5,11 @@ use borrow.Author.Rules.{rules}
 use Rattle.steps.proofs.tally.Tally.measured.Statement.{statement}
 use Rattle.steps.proofs.tally.Tally.measured.Tie as tie
 
-add-measured : tie.Need-overflow-add-measured
-add-measured c = search rules
+add-t : tie.Need-overflow-add-t
+add-t c = search rules
 
 returns : tie.Need-returns
 returns c = (refl, simp (zero-mul, one-mul, add-zero))
 
 pub measured-spec : {M : Type 1} → statement M
-measured-spec = tie.close (tie.spec add-measured returns)
+measured-spec = tie.close (tie.spec add-t returns)

@@ -5,11 +5,11 @@ use borrow.Author.Rules.{rules}
 use Rattle.steps.proofs.tally.Tally.ruled_out.Statement.{statement}
 use Rattle.steps.proofs.tally.Tally.ruled_out.Tie as tie
 
-add-ruled : tie.Need-overflow-add-ruled
-add-ruled c = search rules
+add-t : tie.Need-overflow-add-t
+add-t c = search rules
 
 returns : tie.Need-returns
 returns c = (refl, simp (zero-mul, one-mul, add-zero))
 
 pub ruled-out-spec : {M : Type 1} → statement M
-ruled-out-spec = tie.close (tie.spec add-ruled returns)
+ruled-out-spec = tie.close (tie.spec add-t returns)

@@ -5,11 +5,11 @@ use borrow.Author.Rules.{rules}
 use Rattle.steps.proofs.tally.Tally.visited.Statement.{statement}
 use Rattle.steps.proofs.tally.Tally.visited.Tie as tie
 
-add-visits : tie.Need-overflow-add-visits
-add-visits c = search rules
+add-t : tie.Need-overflow-add-t
+add-t c = search rules
 
 returns : tie.Need-returns
 returns c = (refl, rw add-one)
 
 pub visited-spec : {M : Type 1} → statement M
-visited-spec = tie.close (tie.spec add-visits returns)
+visited-spec = tie.close (tie.spec add-t returns)

@@ -1,4 +1,0 @@
-pub mod Rooms
-pub mod Told
-pub mod Unique
-pub mod Outcomes
