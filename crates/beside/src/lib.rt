@@ -1,4 +1,6 @@
 // The leaf loops, bounds and the check, exported for the harness that runs them beside the Rust (oracle/, bench/). No function demands anything: what is no leaf pair is answered as such, and nothing is written.
+#![tactic(auto)]
+
 ghost use Rattle.std.specs.Prelude.{◌≡◌, ◌&&◌, cond, ◌-◌, ◌^◌, length, leb};
 ghost use Rattle.std.specs.Float.{nan, binary64};
 ghost use Rattle.rounding.specs.Distance.{distance as distanceOfRows};

@@ -1,4 +1,6 @@
 // Nodes and tiles of a lent tree (kiddo: cursor.rs, stem_strategy/eytzinger).
+#![tactic(auto)]
+
 ghost use Rattle.std.specs.Prelude.{◌≡◌, ◌+◌, ◌-◌, ◌*◌, ◌≤◌, ◌<◌, min, length, take, drop, get_or};
 ghost use Rattle.written.specs.LentTree.{levels as levelsOver, is_leaf, span as span_of, axis as axisOf, near as nearOf, far as farOf};
 ghost use Rattle.written.specs.NodePairs.{on_side};

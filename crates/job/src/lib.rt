@@ -1,4 +1,6 @@
 // The job program as a function: the bytes of a job in, the bytes of its text out. Added by the port.
+#![tactic(auto)]
+
 ghost use Rattle.std.specs.Prelude.{◌≤◌, length};
 ghost use Rattle.reading.specs.Lays.{Lays};
 ghost use Rattle.reading.specs.Header.{axes, mode, radius, trees, right_at};

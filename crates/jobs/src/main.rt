@@ -3,6 +3,8 @@
 // each prefix after a line `prefix` with its length, and each change of one bit after a line `bit` with its number, the lowest bit of the first byte being 0.
 // Where the input ends before a record does, a line `cut short` is the last.
 // The jobs and their texts were made by a reading of the paper in Rust; oracle/README.md says how.
+#![tactic(auto)]
+
 mod changes;
 mod records;
 mod show;

@@ -1,4 +1,6 @@
 // The joins that callers use: pairs and counts over two lent trees, each "up to" and "under" a radius, and nearest. No function demands anything: what is wrong is refused under its number.
+#![tactic(auto)]
+
 mod answer;
 mod counts;
 mod neighbours;

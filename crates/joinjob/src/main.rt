@@ -1,4 +1,6 @@
 // The job program: reads a job from standard input and writes its text to standard output.
+#![tactic(auto)]
+
 mod input;
 
 use crate::input::{Input, read_job};

@@ -1,4 +1,6 @@
 // What the loops over two leaves share: the squared distances of one point to the points of a tile, axis by axis, and the test of one (kiddo: leaf.rs). The loops stand in crates of their own: leafpairs, leafcounts, leafnearest.
+#![tactic(auto)]
+
 ghost use Rattle.std.specs.Prelude.{◌≡◌, cond};
 ghost use Rattle.written.specs.Boxes.{passes as passesRadius};
 ghost use Rattle.metric.specs.Edges.{edge_of};

@@ -1,4 +1,6 @@
 // How many pairs of two leaves pass: left tiles of at most 32 places, within each the right tiles, then left points, then right points (kiddo: leaf.rs).
+#![tactic(auto)]
+
 ghost use Rattle.std.specs.Prelude.{◌≡◌, ◌≤◌, length};
 ghost use Rattle.metric.specs.Edges.{edge_of};
 ghost use Rattle.leaf.specs.Lent.{LeafPair, TilePair};

@@ -1,5 +1,7 @@
 // The nearest answers of a left leaf, improved by the points of a right leaf (kiddo: nearest.rs, `update_leaf`).
 // The right point is outside and the left points inside: each left point still sees the right points in place order, so the answers are the same.
+#![tactic(auto)]
+
 ghost use Rattle.std.specs.Prelude.{◌≡◌, cond, suc, ◌≤◌, length};
 ghost use Rattle.std.specs.Float.Ieee.{lt};
 ghost use Rattle.leaf.specs.Lent.{join_of, LeafPair, TilePair};

@@ -1,4 +1,6 @@
 // The pairs of two leaves that pass, stored as far as there is room: left tiles of at most 32 places, within each the right tiles, then left points, then right points (kiddo: leaf.rs).
+#![tactic(auto)]
+
 ghost use Rattle.std.specs.Prelude.{◌≡◌};
 ghost use Rattle.leaf.specs.Lent.{LeafPair, TilePair};
 ghost use Rattle.leaf.specs.Kept.{keeps, of_tile_pair, of_tile_leaf, of_leaves, Countable};

@@ -1,4 +1,6 @@
 // Squared Euclidean distance in binary64, boxes with their bounds, and the edge rules (kiddo: squared_euclidean, metric.rs).
+#![tactic(auto)]
+
 ghost use Rattle.std.specs.Prelude.{◌≡◌, ◌≤◌};
 ghost use Rattle.std.specs.Float.{binary64};
 ghost use Rattle.std.specs.Float.Ieee.Scale.{finite as finiteNumber};

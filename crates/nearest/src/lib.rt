@@ -1,4 +1,6 @@
 // All-nearest over two accepted trees: for each left place the nearest right item, in left place order (kiddo: nearest.rs).
+#![tactic(auto)]
+
 ghost use Rattle.std.specs.Prelude.{◌≡◌, true, false, length, replicate};
 ghost use Rattle.written.specs.Nearest.{unset, no_points};
 ghost use Rattle.written.specs.Answers.{Accepts, near_rooms_agree, near_room_ok};

@@ -1,4 +1,6 @@
 // The joins for other languages: a slice is passed as pointer and length, the answer's numbers go to an array of six. No function demands anything.
+#![tactic(auto)]
+
 ghost use Rattle.std.specs.Prelude.{◌≡◌, length};
 ghost use Rattle.written.specs.Boxes.{up_to, under};
 ghost use Rattle.written.specs.Spacing.{radius_of};

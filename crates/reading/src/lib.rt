@@ -1,4 +1,6 @@
 // From the bytes of a job: little-endian numbers, the header, and the trees that lie in it. Added by the port.
+#![tactic(auto)]
+
 mod buffers;
 mod header;
 mod layout;

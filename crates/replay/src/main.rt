@@ -10,6 +10,8 @@
 // name one buffer that is lent at the length given, not at its own: so refusals 2, 3 and 8 come about, which no job can ask for.
 //
 // The records and the lines to be written are made by `oracle/src/bin/record.rs` from the Rust's own walk; oracle/README.md says how. A record that cannot be read counts as different.
+#![tactic(auto)]
+
 mod calls;
 mod compare;
 mod frame;

@@ -1,4 +1,6 @@
 // A found pair, and the three buffers that are lent for pairs: the pairs of one left point stored as far as there is room.
+#![tactic(auto)]
+
 ghost use Rattle.std.specs.Prelude.{◌≡◌, suc, ◌-◌, ◌<◌, min, length, take};
 ghost use Rattle.rooms.specs.Rooms.{filling, put, puts, SameRooms};
 ghost use Rattle.rooms.specs.Emitted.{found_of, places_below, pairs_at, Emits};

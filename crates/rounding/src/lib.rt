@@ -1,1 +1,3 @@
 // Theory alone: the facts on rounded numbers stand in specs/.
+#![tactic(auto)]
+

@@ -1,4 +1,6 @@
 // The radius walk over two accepted trees, for pairs and for counts (kiddo: traversal.rs).
+#![tactic(auto)]
+
 ghost use Rattle.std.specs.Prelude.{◌≡◌};
 ghost use Rattle.written.specs.Answers.{Accepts};
 ghost use Rattle.metric.specs.Edges.{edge_of};

@@ -1,4 +1,6 @@
 // The check of one lent tree: rules 1 to 7 of the table, in that order. Added by the port.
+#![tactic(auto)]
+
 ghost use Rattle.std.specs.Prelude.{◌≡◌, [], ◌≤◌};
 ghost use Rattle.written.specs.LentTree.{stem_count};
 ghost use Rattle.written.specs.Check.{axes_ok, sizes_ok, lengths_ok, coords_ok, refusal as refusalOf};

@@ -9,8 +9,7 @@ use lib.Ieee.{Float, nan, inf, fin, binary64, prec, low, hid, top, odd, of_field
 use lib.Ieee.Bits.{of_bits-to_bits}
 use lib.Ieee.Compare.{differs_from_itself, nan_differs}
 use lib.Ieee.Scale.{finite}
-use Rattle.metric.proofs.finite.Statement.{statement}
-use Rattle.metric.proofs.finite.Tie as tie
+use Rattle.metric.proofs.finite.Goals as goal
 
 -- ---- the first test
 no_nan : (x : Float) → ne x x ≡ false → T (not (is_nan x))
@@ -40,18 +39,15 @@ unfolding of_bits
 read-finite b = fields-finite (leb (top binary64) b) (b % top binary64 / hid binary64) (b % hid binary64) ∙ ap (λ (x : ℕ). not (eqb x 2047)) (field b 11 52)
 
 -- ---- the function
-returns : tie.Need-returns
-returns c = sym (ap finite (differs_from_itself c.before.args.x (subst T (sym c.if1.true) tt)))
+pub returns-then-x : goal.returns-then-x
+returns-then-x c = sym (ap finite (differs_from_itself c.args.x (subst T (sym c.if-x.true) tt)))
 
-float-to-bits-exponent : tie.Need-float-to-bits-exponent
-float-to-bits-exponent c = no_nan c.before.args.x c.if1.false
+pub float_to_bits-exponent : goal.float_to_bits-exponent
+float_to_bits-exponent c = no_nan c.args.x c.if-x.false
 
 -- owning an f64 tells that the format holds it
-returns-2 : tie.Need-returns-2
-returns-2 c =
-    let x = c.before.args.x in
-    let held : T (fits binary64 x) = subst T (sym c.before.well-formed.0.1) tt in
+pub returns : goal.returns
+returns c =
+    let x = c.args.x in
+    let held : T (fits binary64 x) = subst T (sym c.well_formed.0.1) tt in
     sym (read-finite (to_bits binary64 x)) ∙ ap finite (of_bits-to_bits binary64 x held)
-
-pub finite-spec : {M : Type 1} → statement M
-finite-spec = tie.close (tie.spec returns float-to-bits-exponent returns-2)
