@@ -7,7 +7,7 @@ use lib.ListN.{length}
 use lib.Dec.{leb, ltb, eqb}
 use lib.Ieee.{Float}
 use borrow.Author.Tests.{ltb-true, leb-true, eqb-true}
-use Rattle.written.specs.Laws.Tests.{both}
+use Rattle.written.proofs.Laws.Tests.{both}
 use Rattle.metric.specs.Lent.{HoldsPlace}
 use Rattle.leaf.specs.Lent.{Stretch, LeafPair}
 use Rattle.beside.specs.Calls.{place_ok, side_ok, pair_ok, alike_ok}

@@ -12,7 +12,7 @@ use lib.Pow.{pow_mono, shl_exact}
 use lib.Seq.{take_all}
 use Rattle.written.specs.LentTree.{levels}
 use Rattle.written.specs.NodePairs.{left_side, right_side}
-use Rattle.written.specs.Laws.LentTree.{levels_enough, levels_least}
+use Rattle.written.proofs.Laws.LentTree.{levels_enough, levels_least}
 use Rattle.cursor.specs.Held.{side_of}
 
 -- an exponent whose power is still below m is below the levels over m

@@ -6,17 +6,17 @@ use lib.Dec.{T}
 use lib.Ieee.{Float, Format, binary64, le, lt}
 use lib.Ieee.Scale.{finite}
 use Rattle.rounding.specs.Distance.{Row, dist1, distance as distanceOfRows}
-use Rattle.rounding.specs.Order.{known, finite_known, le_known_l, le_known_r, le_refl, le_total, le_trans, not_lt→le, finite_between}
-use Rattle.rounding.specs.Signs.{plain}
-use Rattle.rounding.specs.Squares.{dist1_plain, dist1_mono, dist1_sym}
-use Rattle.rounding.specs.Sums.{summed_mono}
-use Rattle.rounding.specs.Boxes.{Finite, Within}
+use Rattle.rounding.proofs.Order.{known, finite_known, le_known_l, le_known_r, le_refl, le_total, le_trans, not_lt→le, finite_between}
+use Rattle.rounding.proofs.Signs.{plain}
+use Rattle.rounding.proofs.Squares.{dist1_plain, dist1_mono, dist1_sym}
+use Rattle.rounding.proofs.Sums.{summed_mono}
+use Rattle.rounding.proofs.Boxes.{Finite, Within}
 use Rattle.written.specs.Boxes.{Trees, distance, point, sides}
 use Rattle.written.specs.NodePairs.{NodePair, left_side, right_side}
 use Rattle.written.specs.Answers.{Accepts}
-use Rattle.written.specs.Laws.Accepted.{both_accepted}
-use Rattle.written.specs.Laws.RadiusWalk.{Good}
-use Rattle.written.specs.Laws.Pairs.{finite_at, place_of}
+use Rattle.written.proofs.Laws.Accepted.{both_accepted}
+use Rattle.written.proofs.Laws.RadiusWalk.{Good}
+use Rattle.written.proofs.Laws.Pairs.{finite_at, place_of}
 use Rattle.held.specs.Apart.{clamped, apart, BoxNoFarther}
 
 -- ---- one axis

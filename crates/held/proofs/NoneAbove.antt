@@ -10,9 +10,9 @@ use lib.ListN.{length, get_or, drop, drop_of_length-le}
 use lib.Seq.{drop-cons}
 use lib.Ieee.{Float, nan, inf, fin, lt, le, is_nan}
 use Rattle.rounding.specs.Distance.{zero₊}
-use Rattle.rounding.specs.Order.{known, nan_right, lt→le, le_trans, le_lt_trans, asym, split}
+use Rattle.rounding.proofs.Order.{known, nan_right, lt→le, le_trans, le_lt_trans, asym, split}
 use Rattle.written.specs.Boxes.{under, beyond}
-use Rattle.written.specs.Laws.Tests.{gave, T_true, denies, not_both}
+use Rattle.written.proofs.Laws.Tests.{gave, T_true, denies, not_both}
 use Rattle.held.specs.Largest.{largest_from, largest_of}
 
 -- no distance is above the bound

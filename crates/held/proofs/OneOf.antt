@@ -4,7 +4,7 @@ use mathlib.Core.Logic.{inl, inr}
 use mathlib.Core.Bool.{Bool, true, false, ◌||◌}
 use Prim.Native.Nat.{ℕ, zero, suc, ◌<◌}
 use native.Mathlib.Nat.{eq-or-lt_of_le, le_of_suc-le-suc, not-suc-le-zero}
-use Rattle.written.specs.Laws.Tests.{not_both}
+use Rattle.written.proofs.Laws.Tests.{not_both}
 use Rattle.held.specs.Apart.{one_of}
 
 or_true : (a b : Bool) → b ≡ true → (a || b) ≡ true

@@ -8,13 +8,13 @@ use native.Mathlib.Omega.{arith}
 use lib.ListN.{length}
 use lib.Dec.{T}
 use lib.Ieee.{Float, le, lt}
-use Rattle.rounding.specs.Order.{le_lt_trans}
+use Rattle.rounding.proofs.Order.{le_lt_trans}
 use Rattle.written.specs.Places.{In, inside}
 use Rattle.written.specs.Boxes.{Trees, point, distance}
 use Rattle.written.specs.NodePairs.{NodePair, left_part, right_part}
 use Rattle.written.specs.Nearest.{Neighbour, answer_at, improve, offer, update}
-use Rattle.written.specs.Laws.Tests.{denies, T_true, not_both}
-use Rattle.written.specs.Laws.Places.{true_inside}
+use Rattle.written.proofs.Laws.Tests.{denies, T_true, not_both}
+use Rattle.written.proofs.Laws.Places.{true_inside}
 use Rattle.leafnearest.specs.Each.{each_is}
 use Rattle.held.specs.Apart.{apart, BoxNoFarther}
 

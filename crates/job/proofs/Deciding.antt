@@ -8,7 +8,7 @@ use borrow.Author.Tests.{eq-eqb}
 use lib.ListN.{length}
 use lib.Dec.{leb, eqb}
 use Rattle.written.specs.Answers.{stored}
-use Rattle.written.specs.Laws.Tests.{fails, not_both, both, three, at_most, equal}
+use Rattle.written.proofs.Laws.Tests.{fails, not_both, both, three, at_most, equal}
 use Rattle.reading.specs.Trees.{tree_end, tree_fits}
 use Rattle.reading.specs.Lays.{Lays}
 use Rattle.reading.specs.Header.{axes, mode, radius, trees, right_at, size_ok, length_ok, unless, header_refusal, then_length, job_refusal}

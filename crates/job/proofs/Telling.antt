@@ -15,9 +15,9 @@ use Rattle.written.specs.Totals.{none, walk_totals, near_totals}
 use Rattle.written.specs.Answers.{Answer, answered, PairRooms, NearRooms}
 use Rattle.written.specs.Calls.{left_broken, right_broken, PairsAnswer, pairs_tree_refused, pairs_rooms_differ, pairs_all_fit, pairs_some_fit}
 use Rattle.written.specs.Calls.{NearestAnswer, nearest_tree_refused, nearest_rooms_differ, nearest_room_short, nearest_no_points, nearest_written}
-use Rattle.written.specs.Answered.{pairs_mean, nearest_means}
-use Rattle.written.specs.Right.{nearest_for_each}
-use Rattle.written.specs.Laws.Points.{both_hold}
+use Rattle.written.proofs.Answered.{pairs_mean, nearest_means}
+use Rattle.written.proofs.Right.{nearest_for_each}
+use Rattle.written.proofs.Laws.Points.{both_hold}
 use Rattle.printing.specs.Text.{pairs_word, count_word, nearest_word}
 use Rattle.printing.specs.Rows.{rows}
 use Rattle.printing.specs.Columns.{rows_of}

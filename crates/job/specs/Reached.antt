@@ -11,9 +11,9 @@ use Rattle.written.specs.Answers.{Answer, PairRooms, NearRooms, pairs_call, coun
 use Rattle.written.specs.Calls.{TreeRefused, left_broken, right_broken, PairsAnswer, pairs_tree_refused, pairs_rooms_differ, pairs_all_fit, pairs_some_fit}
 use Rattle.written.specs.Calls.{NearestAnswer, nearest_tree_refused, nearest_rooms_differ, nearest_room_short, nearest_no_points, nearest_written}
 use Rattle.written.specs.Calls.{CountsAnswer, counts_tree_refused, counts_told}
-use Rattle.written.specs.Answered.{pairs_mean, counts_mean, nearest_means}
-use Rattle.written.specs.Checked.{refusal_is_first, first_is_one}
-use Rattle.written.specs.Laws.Tests.{both, three, at_most, equal}
+use Rattle.written.proofs.Answered.{pairs_mean, counts_mean, nearest_means}
+use Rattle.written.proofs.Checked.{refusal_is_first, first_is_one}
+use Rattle.written.proofs.Laws.Tests.{both, three, at_most, equal}
 use Rattle.reading.specs.Little.{numbers, floats}
 use Rattle.reading.specs.Trees.{leaf_count, point_count, starts_at, stems_at, items_at, coords_at, tree_end, tree_fits, tree_at}
 use Rattle.reading.specs.Laws.{ends}

@@ -10,10 +10,10 @@ use Rattle.written.specs.Boxes.{Trees, Edge}
 use Rattle.written.specs.Answers.{Answer, answered, refused, checked, left_refusal, right_refusal, Accepts, PairRooms, pair_rooms_agree, room_number, pairs_in}
 use Rattle.written.specs.Answers.{NearRooms, near_rooms_agree, near_room_ok, nearest_in}
 use Rattle.written.specs.Rules.{FirstBroken}
-use Rattle.written.specs.Checked.{refusal_is_first}
+use Rattle.written.proofs.Checked.{refusal_is_first}
 use Rattle.written.specs.Calls.{TreeRefused, left_broken, right_broken}
-use Rattle.written.specs.Answered.{rooms_agree}
-use Rattle.written.specs.Laws.Checked.{on_refused}
+use Rattle.written.proofs.Answered.{rooms_agree}
+use Rattle.written.proofs.Laws.Checked.{on_refused}
 use Rattle.rooms.specs.Rooms.{SameRooms}
 use Rattle.steps.specs.Lent.{rooms_of}
 use Rattle.steps.specs.Counted.{totals_held}

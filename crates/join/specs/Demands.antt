@@ -11,13 +11,13 @@ use Rattle.written.specs.RadiusWalk.{Found, all_against_all, found}
 use Rattle.written.specs.Totals.{Totals, none, walk_totals}
 use Rattle.written.specs.Answers.{Answer, refused, checked, left_refusal, right_refusal, Accepts, PairRooms, pair_rooms_agree, stored, room_number, pairs_in}
 use Rattle.written.specs.Calls.{TreeRefused, PairRoomsAgree}
-use Rattle.written.specs.Right.{found_is_rearrangement, count_is_its_length}
-use Rattle.written.specs.Accounted.{totals_add_up}
-use Rattle.written.specs.Limits.{visits_bounded, pairs_take_none_whole}
-use Rattle.written.specs.Answered.{rooms_agree}
-use Rattle.written.specs.Laws.Lists.{perm_length}
-use Rattle.written.specs.Laws.Tests.{fails, at_most, exceeds}
-use Rattle.written.specs.Laws.Checked.{by_trees}
+use Rattle.written.proofs.Right.{found_is_rearrangement, count_is_its_length}
+use Rattle.written.proofs.Accounted.{totals_add_up}
+use Rattle.written.proofs.Limits.{visits_bounded, pairs_take_none_whole}
+use Rattle.written.proofs.Answered.{rooms_agree}
+use Rattle.written.proofs.Laws.Lists.{perm_length}
+use Rattle.written.proofs.Laws.Tests.{fails, at_most, exceeds}
+use Rattle.written.proofs.Laws.Checked.{by_trees}
 use Rattle.join.specs.declared.answer.Answer.{Answer as Held}
 use Rattle.join.specs.Told.{answer_of, Result, PairsTold, CountsTold}
 use Rattle.join.specs.Onward.{pairs_walked, pairs_differ, pairs_walk, counts_walked, counts_walk}

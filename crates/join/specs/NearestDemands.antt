@@ -11,12 +11,12 @@ use Rattle.written.specs.Nearest.{Neighbour, unset, answer_at, nearest, no_point
 use Rattle.written.specs.Totals.{Totals, none, near_totals}
 use Rattle.written.specs.Answers.{Answer, answered, refused, Accepts, NearRooms, near_rooms_agree, near_room_ok, nearest_in}
 use Rattle.written.specs.Calls.{NearRoomsAgree, NearestAnswer, nearest_rooms_differ, nearest_room_short, nearest_no_points, nearest_written}
-use Rattle.written.specs.Right.{nearest_for_each, nearest_least, nearest_item}
-use Rattle.written.specs.Accounted.{near_totals_add_up}
-use Rattle.written.specs.Limits.{near_visits_bounded, nearest_takes_none_whole}
-use Rattle.written.specs.Answered.{nearest_means}
-use Rattle.written.specs.Laws.Tests.{neither, not_both, at_most, equal}
-use Rattle.written.specs.Laws.Points.{has_points, both_hold}
+use Rattle.written.proofs.Right.{nearest_for_each, nearest_least, nearest_item}
+use Rattle.written.proofs.Accounted.{near_totals_add_up}
+use Rattle.written.proofs.Limits.{near_visits_bounded, nearest_takes_none_whole}
+use Rattle.written.proofs.Answered.{nearest_means}
+use Rattle.written.proofs.Laws.Tests.{neither, not_both, at_most, equal}
+use Rattle.written.proofs.Laws.Points.{has_points, both_hold}
 use Rattle.join.specs.Told.{answer_of, Result, NearestTold}
 use Rattle.join.specs.Onward.{nearest_walk}
 use Rattle.join.specs.Demands.{Refused, refused_untouched}

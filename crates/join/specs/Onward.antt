@@ -8,7 +8,7 @@ use Rattle.written.specs.Nearest.{nearest}
 use Rattle.written.specs.Totals.{walk_totals, near_totals}
 use Rattle.written.specs.Answers.{Answer, answered, refused, Accepts, PairRooms, pair_rooms_agree, pairs_stored, room_number, pairs_in, pairs_call, counts_call}
 use Rattle.written.specs.Answers.{NearRooms, near_rooms_agree, near_stored, near_room_ok, nearest_in, nearest_call}
-use Rattle.written.specs.Laws.Checked.{on_accepted}
+use Rattle.written.proofs.Laws.Checked.{on_accepted}
 
 module _ (j : Trees) (edge : Edge) (radius : Float) where
   abbrev pub pairs_walked : PairRooms → Answer × PairRooms

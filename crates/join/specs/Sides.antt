@@ -6,7 +6,7 @@ use Rattle.written.specs.LentTree.{Tree}
 use Rattle.written.specs.Boxes.{Trees}
 use Rattle.written.specs.Check.{axes_ok, sizes_ok, lengths_ok, starts_ok, coords_ok, pivots_ok, order_ok, refusal}
 use Rattle.written.specs.Calls.{TreeRefused, left_broken, right_broken}
-use Rattle.written.specs.Checked.{refusal_is_first, first_is_one}
+use Rattle.written.proofs.Checked.{refusal_is_first, first_is_one}
 
 kept : (a : Bool) (others : ℕ) → cond a others 1 ≡ 0 → a ≡ true
 kept true others e = refl

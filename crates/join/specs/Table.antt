@@ -3,7 +3,7 @@ use Rattle.std.specs.Prelude.{◌↔◌, Float}
 use Rattle.written.specs.Boxes.{Trees, Edge}
 use Rattle.written.specs.Answers.{PairRooms, NearRooms}
 use Rattle.written.specs.Calls.{PairsAnswer, CountsAnswer, NearestAnswer}
-use Rattle.written.specs.Answered.{pairs_mean, counts_mean, nearest_means}
+use Rattle.written.proofs.Answered.{pairs_mean, counts_mean, nearest_means}
 use Rattle.join.specs.declared.answer.Answer.{Answer as Held}
 use Rattle.join.specs.Told.{answer_of, Result, PairsTold, CountsTold, NearestTold}
 

@@ -7,7 +7,7 @@ use native.Mathlib.Omega.{arith}
 use native.Mathlib.Numerals.{add-one}
 use lib.ListN.{length, length-append}
 use Rattle.written.specs.Places.{over}
-use Rattle.written.specs.Laws.Places.{over_split}
+use Rattle.written.proofs.Laws.Places.{over_split}
 use Rattle.leaf.specs.Sums.{hits}
 
 pub one_at_most : (b : Bool) → cond b 1 0 ≤ 1

@@ -4,8 +4,8 @@ use Rattle.std.proofs.Common.{zero-le, mul-le-mul, arith, length-append}
 use Rattle.written.specs.Places.{Part, over, cross}
 use Rattle.written.specs.RadiusWalk.{Found, keep, keep_if, passing, pair_of}
 use Rattle.written.specs.Boxes.{Trees, Edge}
-use Rattle.written.specs.Laws.Lists.{perm_length}
-use Rattle.written.specs.Laws.Tiles.{by_tiles_lem}
+use Rattle.written.proofs.Laws.Lists.{perm_length}
+use Rattle.written.proofs.Laws.Tiles.{by_tiles_lem}
 use Rattle.metric.specs.Edges.{edge_of}
 use Rattle.leaf.specs.Lent.{join_of, stretch, LeafPair}
 use Rattle.leaf.specs.Kept.{keeps, of_leaves}

@@ -10,7 +10,7 @@ use native.Mathlib.Omega.{arith}
 use lib.ListN.{length, take, drop, get_or}
 use lib.Ieee.{Float, binary64}
 use Rattle.rounding.specs.Distance.{distance}
-use Rattle.rounding.specs.Boxes.{distance_sym}
+use Rattle.rounding.proofs.Boxes.{distance_sym}
 use Rattle.written.specs.Boxes.{Trees}
 use Rattle.written.specs.Nearest.{Neighbour, nearer, improve, offer}
 use Rattle.metric.specs.Lent.{point_at}

@@ -3,7 +3,7 @@ use Rattle.std.specs.Prelude.{◌≡◌, refl, List, [], ◌∷◌, ◌++◌, �
 use Rattle.std.proofs.Common.{sym, ◌∙◌, append-nil, append_assoc, add-zero, add-suc, suc-add, arith, length-append, drop_of_length-le, ext_get_or, take_all, take_at, drop_at, take-suc-set, drop-set-lt, drop-cons}
 use Rattle.std.proofs.Math.Seq.{append_snoc}
 use Rattle.written.specs.Nearest.{Neighbour, unset, answer_at, at_each}
-use Rattle.written.specs.Laws.Neighbours.{length_at_each, get_at_each}
+use Rattle.written.proofs.Laws.Neighbours.{length_at_each, get_at_each}
 
 abbrev pub Change : Type 0
 Change = ℕ → Neighbour → Neighbour

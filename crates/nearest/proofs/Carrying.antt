@@ -12,8 +12,8 @@ use Rattle.written.specs.Visits.{Fate, measured, ruled, whole, is, Step, ends, g
 use Rattle.written.specs.NodePairs.{NodePair, root_pair, left_part, right_part, area}
 use Rattle.written.specs.Nearest.{Neighbour, unset, near_step, update, near_walk, no_points, nearest}
 use Rattle.written.specs.Totals.{Totals, none, totals_of, near_totals}
-use Rattle.written.specs.Laws.Walks.{Onward}
-use Rattle.written.specs.Laws.RadiusWalk.{Good}
+use Rattle.written.proofs.Laws.Walks.{Onward}
+use Rattle.written.proofs.Laws.RadiusWalk.{Good}
 use Rattle.steps.specs.Counted.{visited, adding}
 use Rattle.steps.proofs.Halves.{far_first}
 use Rattle.steps.proofs.Counted.{of_fate, some_visits}

@@ -14,7 +14,7 @@ use Rattle.written.specs.NodePairs.{NodePair, stem_levels, splits_right}
 use Rattle.written.specs.Nearest.{unset, near_ruled_out, near_step, update}
 use Rattle.written.specs.Totals.{Totals, none, near_totals}
 use Rattle.written.specs.Answers.{Accepts}
-use Rattle.written.specs.Limits.{near_visits_bounded, near_totals_fit, levels_fit}
+use Rattle.written.proofs.Limits.{near_visits_bounded, near_totals_fit, levels_fit}
 use Rattle.metric.specs.Flat.{boxes_of}
 use Rattle.leafnearest.specs.Answers.{answers, Answering}
 use Rattle.steps.specs.declared.nodes.Nodes.{Nodes}

@@ -14,10 +14,10 @@ use Rattle.written.specs.Boxes.{Trees}
 use Rattle.written.specs.Nearest.{Neighbour, unset, no_points, nearest}
 use Rattle.written.specs.Totals.{Totals, none, near_totals}
 use Rattle.written.specs.Answers.{Accepts, near_rooms_agree, near_room_ok, stored}
-use Rattle.written.specs.Right.{nearest_for_each}
-use Rattle.written.specs.Laws.Tests.{equal, at_most}
-use Rattle.written.specs.Laws.Rooms.{stored_all}
-use Rattle.written.specs.Laws.Points.{has_points}
+use Rattle.written.proofs.Right.{nearest_for_each}
+use Rattle.written.proofs.Laws.Tests.{equal, at_most}
+use Rattle.written.proofs.Laws.Rooms.{stored_all}
+use Rattle.written.proofs.Laws.Points.{has_points}
 use Rattle.leafnearest.specs.Answers.{answers}
 use Rattle.steps.specs.declared.tally.Tally.{Tally}
 use Rattle.steps.specs.Counted.{totals_held}

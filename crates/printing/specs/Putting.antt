@@ -4,7 +4,7 @@ use Rattle.std.proofs.Common.{sym, ap, ◌∙◌, arith, length-append}
 use Rattle.std.proofs.lemmas.List.Edits.{sets}
 use Rattle.std.proofs.Math.Seq.{length-sets}
 use Rattle.written.specs.Answers.{stored}
-use Rattle.written.specs.Laws.Rooms.{sets_stored}
+use Rattle.written.proofs.Laws.Rooms.{sets_stored}
 use Rattle.printing.specs.Puts.{Puts}
 
 pub puts_nothing : {b : List ℕ} {at : ℕ} → Puts b at [] b at

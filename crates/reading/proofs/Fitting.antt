@@ -9,7 +9,7 @@ use lib.ListN.{length}
 use lib.Dec.{leb, ltb}
 use lib.Pow.{pow_mono}
 use Rattle.written.specs.LentTree.{levels, stem_count}
-use Rattle.written.specs.Laws.LentTree.{levels_least}
+use Rattle.written.proofs.Laws.LentTree.{levels_least}
 use Rattle.reading.specs.Trees.{starts_at, tree_end, tree_fits}
 
 second_false : (a b : Bool) → b ≡ false → (a && b) ≡ false

@@ -10,7 +10,7 @@ use native.Mathlib.Omega.{arith}
 use lib.ListN.{length, get_or, set, take, length-append, get_or-append}
 use lib.Seq.{get_or_at, take-suc-set, take-set-le}
 use Rattle.written.specs.Places.{over}
-use Rattle.written.specs.Laws.Places.{over_split}
+use Rattle.written.proofs.Laws.Places.{over_split}
 use Rattle.written.specs.RadiusWalk.{Found, keep_if}
 use Rattle.leaf.specs.Sums.{hits}
 use Rattle.leaf.proofs.Hits.{one_at_most, hits_few}

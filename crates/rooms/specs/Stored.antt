@@ -8,7 +8,7 @@ use Rattle.written.specs.Boxes.{Trees}
 use Rattle.written.specs.NodePairs.{NodePair}
 use Rattle.written.specs.RadiusWalk.{Found, leaf_pair}
 use Rattle.written.specs.Answers.{PairRooms, pairs_stored}
-use Rattle.written.specs.Laws.Rooms.{sets_stored}
+use Rattle.written.proofs.Laws.Rooms.{sets_stored}
 use Rattle.metric.specs.Edges.{edge_of}
 use Rattle.leaf.specs.Kept.{keeps, of_leaves}
 use Rattle.rooms.specs.Rooms.{Filling, filling, put, puts}

@@ -1,15 +1,3 @@
--- The arithmetic of rounded numbers, in the order to read it: what is computed, what that gives in numbers, what is proved of it. Assumes nothing.
--- What is computed
+-- The arithmetic of rounded numbers: what is computed. What that gives in numbers, and what is proved of it, stands in proofs/. Assumes nothing.
 pub mod Distance
 pub mod Bounds
--- What it gives, in numbers
-pub mod Vectors
--- What is proved of it
-pub mod Fraction
-pub mod Order
-pub mod Signs
-pub mod Squares
-pub mod Finite
-pub mod Sums
-pub mod Exact
-pub mod Boxes

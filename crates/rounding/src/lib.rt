@@ -1,3 +1,3 @@
-// Theory alone: the facts on rounded numbers stand in specs/.
+// Theory alone: the facts on rounded numbers stand in specs/ and proofs/.
 #![tactic(auto)]
 

@@ -9,10 +9,10 @@ use Rattle.written.specs.LentTree.{axis}
 use Rattle.written.specs.Boxes.{Trees, Boxes, everywhere}
 use Rattle.written.specs.NodePairs.{NodePair, root_pair, stem_levels}
 use Rattle.written.specs.Answers.{Accepts}
-use Rattle.written.specs.Laws.Boxes.{Sized}
-use Rattle.written.specs.Laws.RadiusWalk.{Good, good_start}
-use Rattle.written.specs.Laws.Accepted.{both_accepted}
-use Rattle.written.specs.Limits.{levels_fit}
+use Rattle.written.proofs.Laws.Boxes.{Sized}
+use Rattle.written.proofs.Laws.RadiusWalk.{Good, good_start}
+use Rattle.written.proofs.Laws.Accepted.{both_accepted}
+use Rattle.written.proofs.Limits.{levels_fit}
 use Rattle.cursor.specs.Held.{node_of, root_over}
 use Rattle.steps.specs.declared.nodes.Nodes.{Nodes}
 use Rattle.steps.specs.declared.waiting.Waiting.{Waiting}

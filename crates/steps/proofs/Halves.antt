@@ -7,7 +7,7 @@ use lib.Seq.{set-set, set-get_or}
 use lib.Ieee.{Float, nan}
 use Rattle.written.specs.Boxes.{Boxes, lowered_to, raised_to, lowered, raised}
 use Rattle.written.specs.NodePairs.{corner}
-use Rattle.written.specs.Laws.Boxes.{Sized}
+use Rattle.written.proofs.Laws.Boxes.{Sized}
 use Rattle.metric.specs.Flat.{boxes_of}
 use Rattle.cursor.specs.Held.{side_of}
 

@@ -8,8 +8,8 @@ use lib.Ieee.{Float}
 use Rattle.written.specs.Boxes.{Trees, Boxes}
 use Rattle.written.specs.Visits.{Step, goes, forks}
 use Rattle.written.specs.NodePairs.{NodePair, left_part, right_part}
-use Rattle.written.specs.Laws.Walks.{Onward}
-use Rattle.written.specs.Laws.RadiusWalk.{Good}
+use Rattle.written.proofs.Laws.Walks.{Onward}
+use Rattle.written.proofs.Laws.RadiusWalk.{Good}
 use Rattle.steps.specs.declared.nodes.Nodes.{Nodes}
 use Rattle.steps.specs.declared.waiting.Waiting.{Waiting}
 use Rattle.steps.specs.declared.waiting.Waiting.TheVariants.{Half, Restore}

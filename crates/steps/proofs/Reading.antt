@@ -6,11 +6,11 @@ use native.Mathlib.Omega.{arith}
 use Rattle.written.specs.LentTree.{start, Cursor, Node}
 use Rattle.written.specs.Check.{Rule, rule₁, rule₂, rule₃, rule₄}
 use Rattle.written.specs.Rules.{Kept}
-use Rattle.written.specs.Checked.{accepted_means}
+use Rattle.written.proofs.Checked.{accepted_means}
 use Rattle.written.specs.Boxes.{Trees}
 use Rattle.written.specs.NodePairs.{Side, left_side, right_side, tree_of, cursor_of}
 use Rattle.written.specs.Answers.{Accepts}
-use Rattle.written.specs.Laws.LentTree.{On}
+use Rattle.written.proofs.Laws.LentTree.{On}
 use Rattle.cursor.specs.Held.{node_of, side_of}
 use Rattle.tree.specs.Lent.{Stands}
 use Rattle.tree.proofs.Nodes.{laid, on, leaf_read, start_within, splits, stem_read}

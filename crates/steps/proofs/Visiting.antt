@@ -13,8 +13,8 @@ use Rattle.written.specs.Boxes.{Trees, Boxes, lowered, raised}
 use Rattle.written.specs.Visits.{Step, goes, forks}
 use Rattle.written.specs.NodePairs.{Side, left_side, right_side, NodePair, on_side, tree_of, cursor_of, corner, picked, moved, cut_at, cut_by, near_half, far_half, halves, split}
 use Rattle.written.specs.Answers.{Accepts}
-use Rattle.written.specs.Laws.RadiusWalk.{Good, picked_rest, law_descend}
-use Rattle.written.specs.Laws.Accepted.{both_accepted}
+use Rattle.written.proofs.Laws.RadiusWalk.{Good, picked_rest, law_descend}
+use Rattle.written.proofs.Laws.Accepted.{both_accepted}
 use Rattle.cursor.specs.Held.{side_of}
 use Rattle.steps.specs.declared.nodes.Nodes.{Nodes}
 use Rattle.steps.specs.declared.descent.Descent.{Descent}

@@ -1,5 +1,5 @@
 -- Document 01, "Check, in this order", row by row: what each public call answers and leaves in its buffers, and exactly when.
--- Statements alone; specs/Answered.antt proves that the computed answers are these, and no others. Assumes nothing.
+-- Statements alone; proofs/Answered.antt proves that the computed answers are these, and no others. Assumes nothing.
 use Rattle.std.specs.Prelude.{◌≡◌, List, ◌++◌, map, true, false, ℕ, suc, ◌≤◌, ◌<◌, length, take, drop, Float}
 use Rattle.written.specs.LentTree.{places}
 use Rattle.written.specs.Boxes.{Trees, Edge}

@@ -1,5 +1,5 @@
 -- Document 01, "Check, in this order", rules 1 to 7: a test for each rule, and the number of the first one that a tree breaks.
--- Definitions alone; specs/Rules.antt says each rule as a sentence, and specs/Checked.antt that the test means it. Assumes nothing.
+-- Definitions alone; specs/Rules.antt says each rule as a sentence, and proofs/Checked.antt that the test means it. Assumes nothing.
 use Rattle.std.specs.Prelude.{Bool, true, false, not, ◌&&◌, ◌||◌, cond, ℕ, zero, suc, ◌-◌, ◌*◌, length, get_or, leb, eqb, Float}
 use Rattle.std.specs.Float.{nan, inf, fin}
 use Rattle.std.specs.Float.Ieee.{lt}

@@ -11,20 +11,6 @@ pub mod Nearest
 pub mod Totals
 pub mod Answers
 pub mod Spacing
--- Examples
-pub mod Table
-pub mod Stands
-pub mod Rows
-pub mod Refusals
-pub mod Examples
--- Laws
-pub mod Laws
--- Theorems
+-- Its statements, which proofs/ proves of them
 pub mod Rules
-pub mod Nodes
-pub mod Checked
-pub mod Right
-pub mod Accounted
-pub mod Limits
 pub mod Calls
-pub mod Answered

@@ -1,5 +1,5 @@
 -- Document 01, "Check, in this order", as a reader would write it with "for all": what it says that a tree keeps a rule, and that a number is the first rule broken.
--- Statements alone; specs/Checked.antt proves them of the computed check. Assumes nothing.
+-- Statements alone; proofs/Checked.antt proves them of the computed check. Assumes nothing.
 use Rattle.std.specs.Prelude.{◌≡◌, ◌≢◌, true, false, ℕ, suc, ◌-◌, ◌*◌, ◌^◌, ◌≤◌, ◌<◌, length, get_or, T}
 use Rattle.std.specs.Float.{nan, inf}
 use Rattle.std.specs.Float.Ieee.{lt}

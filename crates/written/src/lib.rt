@@ -1,3 +1,3 @@
-// Theory alone: document 01 as definitions, and what is proved of them, stand in specs/.
+// Theory alone: document 01 as definitions stands in specs/, and what is proved of them in proofs/.
 #![tactic(auto)]
 

@@ -1,7 +1,7 @@
 -- The tests of both places decide; where they pass, the places are held. Assumes nothing.
 use borrow.Author.Rules.{rules}
 use lib.Ieee.{div, of_bits}
-use Rattle.written.specs.Laws.Tests.{refused, granted}
+use Rattle.written.proofs.Laws.Tests.{refused, granted}
 use Rattle.beside.proofs.Held.{place_held}
 use Rattle.beside.proofs.oul_distance.Statement.{statement}
 use Rattle.beside.proofs.oul_distance.Tie as tie

@@ -1,6 +1,6 @@
 -- The test of the arguments decides; where it passes, they are a leaf pair. Assumes nothing.
 use borrow.Author.Rules.{rules}
-use Rattle.written.specs.Laws.Tests.{refused, granted}
+use Rattle.written.proofs.Laws.Tests.{refused, granted}
 use Rattle.beside.proofs.Held.{pair_held}
 use Rattle.beside.proofs.oul_leaf_counts.Statement.{statement}
 use Rattle.beside.proofs.oul_leaf_counts.Tie as tie

@@ -1,7 +1,7 @@
 -- The tests of the arguments and of the rooms decide; where they pass, the pairs can be counted from 0. Assumes nothing.
 use native.Mathlib.Omega.{arith}
 use borrow.Author.Rules.{rules}
-use Rattle.written.specs.Laws.Tests.{refused, granted}
+use Rattle.written.proofs.Laws.Tests.{refused, granted}
 use Rattle.leaf.specs.Fits.{leaf_fits}
 use Rattle.beside.proofs.Held.{pair_held, alike_held}
 use Rattle.beside.proofs.oul_leaf_pairs.Statement.{statement}

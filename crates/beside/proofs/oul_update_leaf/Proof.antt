@@ -4,7 +4,7 @@ use Prim.Native.Nat.{◌-◌}
 use native.Mathlib.Omega.{arith}
 use borrow.Author.Rules.{rules}
 use lib.ListN.{length}
-use Rattle.written.specs.Laws.Tests.{refused, granted}
+use Rattle.written.proofs.Laws.Tests.{refused, granted}
 use Rattle.leaf.specs.Lent.{LeafPair}
 use Rattle.beside.proofs.Held.{pair_held, alike_held}
 use Rattle.beside.proofs.Laid.{laid_out}

@@ -1,12 +1,8 @@
 -- `cursor::levels` meets its contract. The loop's invariant: `power` is 2^r, and r has not passed the levels over m.
 -- Assumes nothing.
-use mathlib.Core.Path.{◌≡◌, refl}
-use Prim.Native.Nat.{◌-◌, ◌^◌, ◌≤◌, ◌<◌}
-use native.Mathlib.Numerals.{add-one}
-use native.Mathlib.Omega.{arith}
+use mathlib.Core.Path.{◌≡◌}
+use Prim.Native.Nat.{◌-◌, ◌^◌, ◌≤◌}
 use Rattle.written.specs.LentTree.{levels}
-use Rattle.written.specs.Laws.LentTree.{levels_least}
-use Rattle.cursor.proofs.Laws.{below_levels, levels_few}
 use Rattle.cursor.proofs.levels.Given as goal
 
 abbrev pub invariant-loop-power : goal.invariant-loop-power

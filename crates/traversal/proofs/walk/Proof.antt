@@ -9,7 +9,7 @@ use Rattle.written.specs.Check.{rule₁, rule₂}
 use Rattle.written.specs.NodePairs.{left_side, right_side}
 use Rattle.written.specs.Totals.{Totals, walk_totals}
 use Rattle.written.specs.Answers.{Accepts}
-use Rattle.written.specs.Laws.Tests.{refused, granted}
+use Rattle.written.proofs.Laws.Tests.{refused, granted}
 use Rattle.metric.specs.Edges.{edge_of}
 use Rattle.metric.specs.Flat.{boxes_of}
 use Rattle.rooms.specs.Rooms.{SameRooms}

@@ -5,11 +5,11 @@ use native.Mathlib.Omega.{arith}
 use borrow.Author.Rules.{rules}
 use Rattle.written.specs.LentTree.{Tree, root, the_root}
 use Rattle.written.specs.Check.{Rule, rule₁, rule₂, rule₃, rule₄, rule₅, rule₆, rule₇, keeps, pivot_ok, refusal}
-use Rattle.written.specs.Checked.{rule_means}
+use Rattle.written.proofs.Checked.{rule_means}
 use Rattle.cursor.specs.Held.{node_of}
 use Rattle.tree.specs.Lent.{tree_of, Sized, Stands, order_at}
 use Rattle.tree.proofs.Descent.{under}
-use Rattle.written.specs.Laws.Tests.{refused, granted}
+use Rattle.written.proofs.Laws.Tests.{refused, granted}
 use Rattle.tree.proofs.refusal.Statement.{statement}
 use Rattle.tree.proofs.refusal.Tie as tie
 

@@ -2,7 +2,7 @@
 use native.Mathlib.Omega.{arith}
 use borrow.Author.Rules.{rules}
 use borrow.Author.Tests.{le-leb, lt-leb}
-use Rattle.written.specs.Laws.Tests.{refused, granted}
+use Rattle.written.proofs.Laws.Tests.{refused, granted}
 use Rattle.beside.proofs.asked.pair_ok.Statement.{statement}
 use Rattle.beside.proofs.asked.pair_ok.Tie as tie
 

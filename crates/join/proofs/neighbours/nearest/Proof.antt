@@ -5,7 +5,7 @@ use native.Mathlib.Omega.{arith}
 use borrow.Author.Rules.{rules}
 use Rattle.written.specs.Boxes.{Trees}
 use Rattle.written.specs.Answers.{Accepts, NearRooms, near_rooms_agree, near_room_ok}
-use Rattle.written.specs.Laws.Tests.{refused, granted}
+use Rattle.written.proofs.Laws.Tests.{refused, granted}
 use Rattle.steps.specs.Lent.{trees_of}
 use Rattle.nearest.specs.Lent.{near_rooms_of}
 use Rattle.join.proofs.Outcomes.{left_refused, right_refused, accepts, nearest_refused, near_rooms_refused, near_room_refused, nearest_told}

@@ -5,7 +5,7 @@ use native.Mathlib.Omega.{arith}
 use borrow.Author.Rules.{rules}
 use Rattle.written.specs.Boxes.{Trees}
 use Rattle.written.specs.Answers.{Accepts, PairRooms, pair_rooms_agree}
-use Rattle.written.specs.Laws.Tests.{refused, granted}
+use Rattle.written.proofs.Laws.Tests.{refused, granted}
 use Rattle.metric.specs.Edges.{edge_of}
 use Rattle.steps.specs.Lent.{trees_of, rooms_of}
 use Rattle.join.proofs.Outcomes.{left_refused, right_refused, accepts, same_rooms, pairs_refused, rooms_refused, pairs_told}

@@ -4,7 +4,7 @@ use mathlib.Core.Bool.{true, false, not, false≢true}
 use lib.Dec.{T}
 use lib.Ieee.{Float, nan, inf, fin, eq, is_nan, to_bits, binary64}
 use borrow.Author.Rules.{rules}
-use Rattle.rounding.specs.Order.{eq_refl}
+use Rattle.rounding.proofs.Order.{eq_refl}
 use Rattle.printing.proofs.numerals.bits.Statement.{statement}
 use Rattle.printing.proofs.numerals.bits.Tie as tie
 

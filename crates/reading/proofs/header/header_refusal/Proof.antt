@@ -8,7 +8,7 @@ use borrow.Author.Rules.{rules}
 use borrow.Author.Tests.{eq-eqb, ne_eqb}
 use lib.Dec.{leb}
 use lib.ListN.{length}
-use Rattle.written.specs.Laws.Tests.{refused, granted, both, at_most}
+use Rattle.written.proofs.Laws.Tests.{refused, granted, both, at_most}
 use Rattle.reading.specs.Little.{number16}
 use Rattle.reading.specs.Header.{size_ok, mark_ok, version_ok, mode_ok, axes_ok, header_refusal}
 use Rattle.reading.proofs.header.header_refusal.Statement.{statement}

@@ -1,6 +1,6 @@
 -- `moves::both_leaves` meets its contract: the early return decides the conjunction. Assumes nothing.
 use borrow.Author.Rules.{rules}
-use Rattle.written.specs.Laws.Tests.{refused, granted}
+use Rattle.written.proofs.Laws.Tests.{refused, granted}
 use Rattle.steps.proofs.splitting.both_leaves.Statement.{statement}
 use Rattle.steps.proofs.splitting.both_leaves.Tie as tie
 

@@ -9,7 +9,7 @@ use Rattle.written.specs.LentTree.{Cursor}
 use Rattle.cursor.specs.Held.{node_of}
 use Rattle.tree.specs.Lent.{tree_of, Stands, order_at}
 use Rattle.tree.proofs.Descent.{last_passes, fails_here, fails_near, far_decides}
-use Rattle.written.specs.Laws.Tests.{refused, granted}
+use Rattle.written.proofs.Laws.Tests.{refused, granted}
 use Rattle.tree.proofs.Nodes.{splits, near_stands, far_stands}
 use Rattle.tree.proofs.order.order_ok.Reads as order_ok_lem
 use Rattle.tree.proofs.order.order_ok.Kinds as order-ok-kinds

@@ -10,7 +10,7 @@ use Rattle.written.specs.Check.{pivot_ok}
 use Rattle.cursor.specs.Held.{node_of}
 use Rattle.tree.specs.Lent.{tree_of, Stands}
 use Rattle.tree.proofs.Descent.{last_passes, fails_here, fails_near, far_decides}
-use Rattle.written.specs.Laws.Tests.{refused, granted}
+use Rattle.written.proofs.Laws.Tests.{refused, granted}
 use Rattle.tree.proofs.Nodes.{splits, near_stands, far_stands}
 use Rattle.tree.proofs.pivots.pivots_ok.Reads as pivots-ok
 use Rattle.tree.proofs.pivots.pivots_ok.Kinds as pivots-ok-kinds

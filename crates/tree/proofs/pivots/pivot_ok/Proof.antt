@@ -5,7 +5,7 @@ use native.Mathlib.Omega.{arith}
 use borrow.Author.Rules.{rules}
 use borrow.Author.Tests.{eq-eqb, ne_eqb}
 use Rattle.written.specs.LentTree.{span}
-use Rattle.written.specs.Laws.LentTree.{on_node}
+use Rattle.written.proofs.Laws.LentTree.{on_node}
 use Rattle.cursor.specs.Held.{node_of}
 use Rattle.tree.proofs.Nodes.{stem_read}
 use Rattle.tree.proofs.pivots.pivot_ok.Statement.{statement}
