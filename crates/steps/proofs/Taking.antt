@@ -6,7 +6,6 @@ use Prim.Native.Nat.{ℕ, ◌+◌, ◌-◌, ◌<◌}
 use native.Mathlib.Omega.{arith}
 use lib.ListN.{set, length-set}
 use lib.Ieee.{Float}
-use Rattle.written.specs.LentTree.{axis}
 use Rattle.written.specs.Boxes.{Trees, Boxes}
 use Rattle.written.specs.Answers.{Accepts}
 use Rattle.metric.specs.Flat.{boxes_of}

@@ -1,12 +1,12 @@
 -- With the right places from q on still to come, the answers are those of all of them. Assumes nothing.
-use mathlib.Core.Path.{◌≡◌, refl, sym, ap, ◌∙◌}
-use Prim.Native.Nat.{◌+◌, ◌-◌, ◌≤◌}
+use mathlib.Core.Path.{refl, sym, ap, ◌∙◌}
+use Prim.Native.Nat.{◌+◌}
 use native.Mathlib.Omega.{arith}
-use Rattle.leaf.specs.Lent.{join_of, TilePair}
-use Rattle.leaf.specs.Sums.{Fresh}
-use Rattle.leaf.proofs.Parts.{point_tile, fresh_row}
-use Rattle.leafnearest.specs.Answers.{answers, Answering, improved}
+use Rattle.leaf.specs.Lent.{join_of}
+use Rattle.leaf.proofs.Parts.{fresh_row}
+use Rattle.leafnearest.specs.Answers.{answers, improved}
 use Rattle.leafnearest.proofs.Improved.{improved_none, improved_next}
+use Rattle.std.proofs.Common.{rules}
 use Rattle.leafnearest.proofs.tile_nearest.Goals as goal
 
 pub loop-q-init : goal.loop-q-init
@@ -18,7 +18,7 @@ loop-q-preserved c =    let w = c.loop-q in
     let a = c.args in
     let p = c.point_nearest in
     let j = join_of a.k a.litems.now a.lcoords.now a.ritems.now a.rcoords.now in
-    (w.invariant.0, search rules, omega arith, omega arith, p.ensures.1, ap (improved j a.la (w.q + 1) a.rend) p.ensures.0 ∙ improved_next j a.la (answers w.items w.dists) w.q a.rend (omega (arith, c.loop-q-test.true)) ∙ w.invariant.5)
+    (w.invariant.0, search rules, omega arith, omega arith, p.ensures.fresh, ap (improved j a.la (w.q + 1) a.rend) p.ensures.dists_after ∙ improved_next j a.la (answers w.items w.dists) w.q a.rend (omega (arith, c.loop-q-test.true)) ∙ w.invariant.5)
 
 pub returns : goal.returns
 returns c =    let w = c.loop-q in

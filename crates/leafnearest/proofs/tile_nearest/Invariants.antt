@@ -1,12 +1,9 @@
 -- With the right places from q on still to come, the answers are those of all of them. Assumes nothing.
-use mathlib.Core.Path.{◌≡◌, refl, sym, ap, ◌∙◌}
-use Prim.Native.Nat.{◌+◌, ◌-◌, ◌≤◌}
-use native.Mathlib.Omega.{arith}
+use mathlib.Core.Path.{◌≡◌}
+use Prim.Native.Nat.{◌-◌, ◌≤◌}
 use Rattle.leaf.specs.Lent.{join_of, TilePair}
 use Rattle.leaf.specs.Sums.{Fresh}
-use Rattle.leaf.proofs.Parts.{point_tile, fresh_row}
 use Rattle.leafnearest.specs.Answers.{answers, Answering, improved}
-use Rattle.leafnearest.proofs.Improved.{improved_none, improved_next}
 use Rattle.leafnearest.proofs.tile_nearest.Given as goal
 
 abbrev pub invariant-loop-q : goal.invariant-loop-q

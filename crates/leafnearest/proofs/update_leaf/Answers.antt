@@ -1,14 +1,15 @@
 -- The tiles before la are done: with the answers from la on improved too, it is the whole change. Assumes nothing.
 use mathlib.Core.Path.{◌≡◌, sym, ◌∙◌}
-use Prim.Native.Nat.{◌-◌, ◌≤◌}
+use Prim.Native.Nat.{◌-◌}
 use native.Mathlib.Nat.{le_trans}
 use native.Mathlib.Omega.{arith}
-use Rattle.leaf.specs.Lent.{join_of, LeafPair}
-use Rattle.leafnearest.specs.Each.{changed_from, changed_none, changed_all}
-use Rattle.leafnearest.specs.Answers.{answers, Answering, improved}
+use Rattle.leaf.specs.Lent.{join_of}
+use Rattle.leafnearest.specs.Each.{changed_none, changed_all}
+use Rattle.leafnearest.specs.Answers.{answers}
 use Rattle.leafnearest.proofs.Improved.{improvement}
 use Rattle.leafnearest.proofs.Stored.{length_answers}
-use Rattle.leafnearest.proofs.Changed.{tile_ends, tile_pair, part_place, part_end, part_inside, length_part, part_changed}
+use Rattle.leafnearest.proofs.Changed.{tile_ends, part_place, part_end, part_inside, part_changed}
+use Rattle.std.proofs.Common.{rules}
 use Rattle.leafnearest.proofs.update_leaf.Goals as goal
 
 pub loop-la-init : goal.loop-la-init
@@ -22,7 +23,7 @@ loop-la-preserved c =    let w = c.loop-la in
     let h = w.invariant.2 in
     let lent = c.tile_nearest.new in
     let j = join_of a.k a.litems.now a.lcoords.now a.ritems.now a.rcoords.now in
-    (w.invariant.0, search rules, le_trans h t.0, t.1, part_changed (improvement j a.rs a.rend) w.la (w.la - a.ls) _ w.items lent.1.1.1.1.1.1.1.1.1.0 w.dists lent.1.1.1.1.1.1.1.1.1.1.0 (w.invariant.1.0 ∙ sym w.invariant.1.1) (part_inside h t.0 t.1 w.items w.invariant.1.0) c.items-1.given.0 c.dists-1.given.0 c.tile_nearest.ensures (part_place h t.0 t.1) (part_end h t.0 t.1) ∙ w.invariant.4)
+    (w.invariant.0, search rules, le_trans h t.0, t.1, part_changed (improvement j a.rs a.rend) w.la (w.la - a.ls) _ w.items lent.items w.dists lent.dists (w.invariant.1.0 ∙ sym w.invariant.1.1) (part_inside h t.0 t.1 w.items w.invariant.1.0) c.items-1.given.0 c.dists-1.given.0 c.tile_nearest.ensures (part_place h t.0 t.1) (part_end h t.0 t.1) ∙ w.invariant.4)
 
 pub returns : goal.returns
 returns c =    let w = c.loop-la in

@@ -1,14 +1,10 @@
 -- The tiles before la are done: with the answers from la on improved too, it is the whole change. Assumes nothing.
-use mathlib.Core.Path.{◌≡◌, sym, ◌∙◌}
+use mathlib.Core.Path.{◌≡◌}
 use Prim.Native.Nat.{◌-◌, ◌≤◌}
-use native.Mathlib.Nat.{le_trans}
-use native.Mathlib.Omega.{arith}
 use Rattle.leaf.specs.Lent.{join_of, LeafPair}
-use Rattle.leafnearest.specs.Each.{changed_from, changed_none, changed_all}
+use Rattle.leafnearest.specs.Each.{changed_from}
 use Rattle.leafnearest.specs.Answers.{answers, Answering, improved}
 use Rattle.leafnearest.proofs.Improved.{improvement}
-use Rattle.leafnearest.proofs.Stored.{length_answers}
-use Rattle.leafnearest.proofs.Changed.{tile_ends, tile_pair, part_place, part_end, part_inside, length_part, part_changed}
 use Rattle.leafnearest.proofs.update_leaf.Given as goal
 
 abbrev pub invariant-loop-la : goal.invariant-loop-la

@@ -1,0 +1,45 @@
+-- What the left tiles from la on keep is left to store. Assumes nothing.
+-- ---- the tile that ends here, and what is left after it
+use mathlib.Core.Path.{◌≡◌, sym, subst}
+use mathlib.Core.List.{List, ◌++◌}
+use Prim.Native.Nat.{ℕ, ◌+◌, ◌-◌, min}
+use native.Mathlib.Omega.{arith}
+use Rattle.written.specs.RadiusWalk.{Found}
+use Rattle.leaf.specs.Kept.{keeps, of_tile_leaf, of_leaves}
+use Rattle.leaf.proofs.Parts.{left_part}
+use Rattle.leaf.proofs.Tiled.{leaf_next, leaf_done}
+use Rattle.leafpairs.proofs.Remaining.{none_left, next_countable, next_left}
+use Rattle.leafpairs.proofs.leaf_pairs.Goals as goal
+
+pub tile_leaf-n-requires : goal.tile_leaf-n-requires
+tile_leaf-n-requires c =
+    let kept : ℕ → ℕ → List Found = let a = c.args in keeps a.k a.radius a.under a.litems.now a.lcoords.now a.ritems.now a.rcoords.now in
+    let here : List Found = let a = c.args in of_tile_leaf kept c.loop-la.la c.tile_end-le.result a.rs a.rend in
+    let after : List Found = let a = c.args in of_leaves kept c.tile_end-le.result a.lend a.rs a.rend in
+    let first : let a = c.args in of_leaves kept c.loop-la.la a.lend a.rs a.rend ≡ here ++ after = let a = c.args in
+    let f = kept in
+    let x = c.loop-la.la in
+    subst (λ (le : ℕ). of_leaves f x a.lend a.rs a.rend ≡ of_tile_leaf f x le a.rs a.rend ++ of_leaves f le a.lend a.rs a.rend) (sym c.tile_end-le.ensures) (leaf_next f x a.lend a.rs a.rend c.loop-la-test.true) in
+    let u = c.loop-la in
+    let e : c.tile_end-le.result ≡ u.la + min 32 (c.args.lend - u.la) = c.tile_end-le.ensures in
+    record { leaf_pair = left_part u.invariant.2 u.invariant.0 (omega (arith, e)) (omega (arith, e, u.invariant.1)); same_rooms = u.invariant.3.same; countable = next_countable u.invariant.3 here after first }
+
+pub loop-la-preserved : goal.loop-la-preserved
+loop-la-preserved c =
+    let kept : ℕ → ℕ → List Found = let a = c.args in keeps a.k a.radius a.under a.litems.now a.lcoords.now a.ritems.now a.rcoords.now in
+    let here : List Found = let a = c.args in of_tile_leaf kept c.loop-la.la c.tile_end-le.result a.rs a.rend in
+    let after : List Found = let a = c.args in of_leaves kept c.tile_end-le.result a.lend a.rs a.rend in
+    let first : let a = c.args in of_leaves kept c.loop-la.la a.lend a.rs a.rend ≡ here ++ after = let a = c.args in
+    let f = kept in
+    let x = c.loop-la.la in
+    subst (λ (le : ℕ). of_leaves f x a.lend a.rs a.rend ≡ of_tile_leaf f x le a.rs a.rend ++ of_leaves f le a.lend a.rs a.rend) (sym c.tile_end-le.ensures) (leaf_next f x a.lend a.rs a.rend c.loop-la-test.true) in
+    let u = c.loop-la in
+    let call = c.tile_leaf-n in
+    let e : c.tile_end-le.result ≡ u.la + min 32 (c.args.lend - u.la) = c.tile_end-le.ensures in
+    (omega (arith, e, u.invariant.0), omega (arith, e, u.invariant.1), u.invariant.2, next_left u.invariant.3 here after first (omega (arith, call.auto)) (omega (arith, call.auto)) (omega (arith, call.auto)) call.ensures)
+
+pub returns : goal.returns
+returns c =    let a = c.args in
+    let u = c.loop-la in
+    let f = keeps a.k a.radius a.under a.litems.now a.lcoords.now a.ritems.now a.rcoords.now in
+    none_left u.invariant.3 (leaf_done f u.la a.lend a.rs a.rend c.loop-la-test.false)

@@ -1,0 +1,101 @@
+-- The row of distances is that of the definition; then none of the places pass, or all, or those found. Assumes nothing.
+-- ---- the ways up, and what holds once the last axis is added
+-- ---- the three ways out: a list of the places that pass
+use mathlib.Core.Path.{◌≡◌, refl, sym, ap, ◌∙◌}
+use mathlib.Core.List.{List, []}
+use Prim.Native.Nat.{ℕ, ◌+◌, ◌-◌, ◌*◌}
+use native.Mathlib.Omega.{arith}
+use lib.ListN.{length, take, drop, get_or}
+use lib.Ieee.{Float, nan}
+use Rattle.metric.specs.Edges.{edge_of}
+use Rattle.leaf.specs.Sums.{Holds, sum_to, row, reached, passing, hits}
+use Rattle.leaf.specs.Kept.{keeps, of_point}
+use Rattle.rooms.specs.Rooms.{filling, puts}
+use Rattle.rooms.specs.Emitted.{places_of, places_below, pairs_at, Emits}
+use Rattle.rooms.proofs.Places.{none_pass, all_pass}
+use Rattle.leafpairs.proofs.Points.{hits_row, part_size, measured, point_puts, point_emits}
+use Rattle.leafpairs.proofs.point.point_tile.Goals as goal
+
+pub returns-then-m-eq0 : goal.returns-then-m-eq0
+unfolding puts
+returns-then-m-eq0 c =
+    let distances : List Float = c.last_axis-m.new.dists in
+    let many : let a = c.args in c.last_axis-m.result ≡ hits (passing (edge_of a.under) a.radius (row distances)) (a.re - a.ra) = let a = c.args in
+    let tile = c.tile in
+    hits_row (edge_of a.under) a.radius distances (reached c.first_axes.new.sums (get_or a.lcoords.now ((a.k - 1) * length a.litems.now + a.p) nan) tile.result.now) (a.re - a.ra) (length tile.result.now) tile.ensures.result_len c.last_axis-m.ensures.holds c.last_axis-m.ensures.value in
+    let part : List ℕ = let a = c.args in take (a.re - a.ra) (drop a.ra a.ritems.now) in
+    let Passing : List ℕ → Type 0 = λ l. let a = c.args in l ≡ places_of (passing (edge_of a.under) a.radius (row distances)) (a.re - a.ra) in
+    let held : let a = c.args in Holds distances (a.re - a.ra) (sum_to a.lcoords.now (length a.litems.now) a.p a.rcoords.now (length a.ritems.now) a.ra a.k) = let a = c.args in
+    let tile = c.tile in
+    measured a.k a.litems.now a.lcoords.now a.p a.ritems.now a.rcoords.now a.ra (a.re - a.ra) c.first_axes.new.sums distances tile.result.now c.requires.point_tile.some_axes c.first_axes.ensures.holds tile.ensures.result_value tile.ensures.result_len c.last_axis-m.ensures.holds in
+    let stored : (l : List ℕ) → Passing l → let a = c.args in let s = filling a.found a.lout.now a.rout.now a.dout.now in puts s (pairs_at distances (get_or a.litems.now a.p 0) part l) ≡ puts s (of_point (keeps a.k a.radius a.under a.litems.now a.lcoords.now a.ritems.now a.rcoords.now) a.p a.ra a.re) = λ l e. let a = c.args in
+    point_puts a.k a.litems.now a.lcoords.now a.p a.ritems.now a.rcoords.now a.ra a.radius a.under a.re distances held (filling a.found a.lout.now a.rout.now a.dout.now) l e in
+    record { dout_after = stored [] (sym (none_pass _ _ (sym many ∙ c.if-m-eq0.true))); fresh = c.first_axes.ensures.fresh }
+
+pub emit_all-requires : goal.emit_all-requires
+emit_all-requires c =
+    let part : List ℕ = let a = c.args in take (a.re - a.ra) (drop a.ra a.ritems.now) in
+    let distances : List Float = c.last_axis-m.new.dists in
+    let Passing : List ℕ → Type 0 = λ l. let a = c.args in l ≡ places_of (passing (edge_of a.under) a.radius (row distances)) (a.re - a.ra) in
+    let held : let a = c.args in Holds distances (a.re - a.ra) (sum_to a.lcoords.now (length a.litems.now) a.p a.rcoords.now (length a.ritems.now) a.ra a.k) = let a = c.args in
+    let tile = c.tile in
+    measured a.k a.litems.now a.lcoords.now a.p a.ritems.now a.rcoords.now a.ra (a.re - a.ra) c.first_axes.new.sums distances tile.result.now c.requires.point_tile.some_axes c.first_axes.ensures.holds tile.ensures.result_value tile.ensures.result_len c.last_axis-m.ensures.holds in
+    let many : let a = c.args in c.last_axis-m.result ≡ hits (passing (edge_of a.under) a.radius (row distances)) (a.re - a.ra) = let a = c.args in
+    let tile = c.tile in
+    hits_row (edge_of a.under) a.radius distances (reached c.first_axes.new.sums (get_or a.lcoords.now ((a.k - 1) * length a.litems.now + a.p) nan) tile.result.now) (a.re - a.ra) (length tile.result.now) tile.ensures.result_len c.last_axis-m.ensures.holds c.last_axis-m.ensures.value in
+    let size : let a = c.args in length part ≡ a.re - a.ra = part_size c.args.ritems.now c.args.ra c.args.re c.requires.point_tile.tile.rising c.requires.point_tile.tile.inside in
+    let emits : (m : ℕ) (l : List ℕ) → c.last_axis-m.result ≡ m → Passing l → Emits l m part c.args.found = λ m l is e. let a = c.args in
+    point_emits a.k a.litems.now a.lcoords.now a.p a.ritems.now a.rcoords.now a.ra a.radius a.under a.re distances held a.found m l part e (sym is ∙ many) size (omega (arith, c.requires.point_tile.tile.narrow)) c.requires.countable in
+    let whole : Passing (places_below (length part)) = rw size (sym (all_pass _ _ (sym many ∙ c.if-m-part.true ∙ size))) in
+    record { emits = emits _ _ c.if-m-part.true whole; same_rooms = c.requires.same_rooms }
+
+pub returns-then-m-part : goal.returns-then-m-part
+returns-then-m-part c =
+    let part : List ℕ = let a = c.args in take (a.re - a.ra) (drop a.ra a.ritems.now) in
+    let distances : List Float = c.last_axis-m.new.dists in
+    let Passing : List ℕ → Type 0 = λ l. let a = c.args in l ≡ places_of (passing (edge_of a.under) a.radius (row distances)) (a.re - a.ra) in
+    let held : let a = c.args in Holds distances (a.re - a.ra) (sum_to a.lcoords.now (length a.litems.now) a.p a.rcoords.now (length a.ritems.now) a.ra a.k) = let a = c.args in
+    let tile = c.tile in
+    measured a.k a.litems.now a.lcoords.now a.p a.ritems.now a.rcoords.now a.ra (a.re - a.ra) c.first_axes.new.sums distances tile.result.now c.requires.point_tile.some_axes c.first_axes.ensures.holds tile.ensures.result_value tile.ensures.result_len c.last_axis-m.ensures.holds in
+    let stored : (l : List ℕ) → Passing l → let a = c.args in let s = filling a.found a.lout.now a.rout.now a.dout.now in puts s (pairs_at distances (get_or a.litems.now a.p 0) part l) ≡ puts s (of_point (keeps a.k a.radius a.under a.litems.now a.lcoords.now a.ritems.now a.rcoords.now) a.p a.ra a.re) = λ l e. let a = c.args in
+    point_puts a.k a.litems.now a.lcoords.now a.p a.ritems.now a.rcoords.now a.ra a.radius a.under a.re distances held (filling a.found a.lout.now a.rout.now a.dout.now) l e in
+    let many : let a = c.args in c.last_axis-m.result ≡ hits (passing (edge_of a.under) a.radius (row distances)) (a.re - a.ra) = let a = c.args in
+    let tile = c.tile in
+    hits_row (edge_of a.under) a.radius distances (reached c.first_axes.new.sums (get_or a.lcoords.now ((a.k - 1) * length a.litems.now + a.p) nan) tile.result.now) (a.re - a.ra) (length tile.result.now) tile.ensures.result_len c.last_axis-m.ensures.holds c.last_axis-m.ensures.value in
+    let size : let a = c.args in length part ≡ a.re - a.ra = part_size c.args.ritems.now c.args.ra c.args.re c.requires.point_tile.tile.rising c.requires.point_tile.tile.inside in
+    let whole : Passing (places_below (length part)) = rw size (sym (all_pass _ _ (sym many ∙ c.if-m-part.true ∙ size))) in
+    record { dout_after = c.emit_all.ensures ∙ stored _ whole; fresh = c.first_axes.ensures.fresh }
+
+pub emit-requires : goal.emit-requires
+emit-requires c =
+    let part : List ℕ = let a = c.args in take (a.re - a.ra) (drop a.ra a.ritems.now) in
+    let distances : List Float = c.last_axis-m.new.dists in
+    let Passing : List ℕ → Type 0 = λ l. let a = c.args in l ≡ places_of (passing (edge_of a.under) a.radius (row distances)) (a.re - a.ra) in
+    let held : let a = c.args in Holds distances (a.re - a.ra) (sum_to a.lcoords.now (length a.litems.now) a.p a.rcoords.now (length a.ritems.now) a.ra a.k) = let a = c.args in
+    let tile = c.tile in
+    measured a.k a.litems.now a.lcoords.now a.p a.ritems.now a.rcoords.now a.ra (a.re - a.ra) c.first_axes.new.sums distances tile.result.now c.requires.point_tile.some_axes c.first_axes.ensures.holds tile.ensures.result_value tile.ensures.result_len c.last_axis-m.ensures.holds in
+    let many : let a = c.args in c.last_axis-m.result ≡ hits (passing (edge_of a.under) a.radius (row distances)) (a.re - a.ra) = let a = c.args in
+    let tile = c.tile in
+    hits_row (edge_of a.under) a.radius distances (reached c.first_axes.new.sums (get_or a.lcoords.now ((a.k - 1) * length a.litems.now + a.p) nan) tile.result.now) (a.re - a.ra) (length tile.result.now) tile.ensures.result_len c.last_axis-m.ensures.holds c.last_axis-m.ensures.value in
+    let size : let a = c.args in length part ≡ a.re - a.ra = part_size c.args.ritems.now c.args.ra c.args.re c.requires.point_tile.tile.rising c.requires.point_tile.tile.inside in
+    let emits : (m : ℕ) (l : List ℕ) → c.last_axis-m.result ≡ m → Passing l → Emits l m part c.args.found = λ m l is e. let a = c.args in
+    point_emits a.k a.litems.now a.lcoords.now a.p a.ritems.now a.rcoords.now a.ra a.radius a.under a.re distances held a.found m l part e (sym is ∙ many) size (omega (arith, c.requires.point_tile.tile.narrow)) c.requires.countable in
+    let found-places : Passing (take c.last_axis-m.result c.passing_places.new.places) = ap (λ (m : ℕ). take m c.passing_places.new.places) many ∙ (rw size at c.passing_places.ensures) in
+    record { emits = emits _ _ refl found-places; same_rooms = c.requires.same_rooms }
+
+pub returns : goal.returns
+returns c =
+    let part : List ℕ = let a = c.args in take (a.re - a.ra) (drop a.ra a.ritems.now) in
+    let distances : List Float = c.last_axis-m.new.dists in
+    let Passing : List ℕ → Type 0 = λ l. let a = c.args in l ≡ places_of (passing (edge_of a.under) a.radius (row distances)) (a.re - a.ra) in
+    let held : let a = c.args in Holds distances (a.re - a.ra) (sum_to a.lcoords.now (length a.litems.now) a.p a.rcoords.now (length a.ritems.now) a.ra a.k) = let a = c.args in
+    let tile = c.tile in
+    measured a.k a.litems.now a.lcoords.now a.p a.ritems.now a.rcoords.now a.ra (a.re - a.ra) c.first_axes.new.sums distances tile.result.now c.requires.point_tile.some_axes c.first_axes.ensures.holds tile.ensures.result_value tile.ensures.result_len c.last_axis-m.ensures.holds in
+    let stored : (l : List ℕ) → Passing l → let a = c.args in let s = filling a.found a.lout.now a.rout.now a.dout.now in puts s (pairs_at distances (get_or a.litems.now a.p 0) part l) ≡ puts s (of_point (keeps a.k a.radius a.under a.litems.now a.lcoords.now a.ritems.now a.rcoords.now) a.p a.ra a.re) = λ l e. let a = c.args in
+    point_puts a.k a.litems.now a.lcoords.now a.p a.ritems.now a.rcoords.now a.ra a.radius a.under a.re distances held (filling a.found a.lout.now a.rout.now a.dout.now) l e in
+    let many : let a = c.args in c.last_axis-m.result ≡ hits (passing (edge_of a.under) a.radius (row distances)) (a.re - a.ra) = let a = c.args in
+    let tile = c.tile in
+    hits_row (edge_of a.under) a.radius distances (reached c.first_axes.new.sums (get_or a.lcoords.now ((a.k - 1) * length a.litems.now + a.p) nan) tile.result.now) (a.re - a.ra) (length tile.result.now) tile.ensures.result_len c.last_axis-m.ensures.holds c.last_axis-m.ensures.value in
+    let size : let a = c.args in length part ≡ a.re - a.ra = part_size c.args.ritems.now c.args.ra c.args.re c.requires.point_tile.tile.rising c.requires.point_tile.tile.inside in
+    let found-places : Passing (take c.last_axis-m.result c.passing_places.new.places) = ap (λ (m : ℕ). take m c.passing_places.new.places) many ∙ (rw size at c.passing_places.ensures) in
+    record { dout_after = c.emit.ensures ∙ stored _ found-places; fresh = c.first_axes.ensures.fresh }

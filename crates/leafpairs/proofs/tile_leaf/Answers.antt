@@ -1,0 +1,45 @@
+-- What the right tiles from ra on keep is left to store. Assumes nothing.
+-- ---- the tile that ends here, and what is left after it
+use mathlib.Core.Path.{◌≡◌, sym, subst}
+use mathlib.Core.List.{List, ◌++◌}
+use Prim.Native.Nat.{ℕ, ◌+◌, ◌-◌, min}
+use native.Mathlib.Omega.{arith}
+use Rattle.written.specs.RadiusWalk.{Found}
+use Rattle.leaf.specs.Kept.{keeps, of_tile_pair, of_tile_leaf}
+use Rattle.leaf.proofs.Parts.{right_part}
+use Rattle.leaf.proofs.Tiled.{tile_next, tiles_none}
+use Rattle.leafpairs.proofs.Remaining.{none_left, next_countable, next_left}
+use Rattle.leafpairs.proofs.tile_leaf.Goals as goal
+
+pub tile_pair-n-requires : goal.tile_pair-n-requires
+tile_pair-n-requires c =
+    let kept : ℕ → ℕ → List Found = let a = c.args in keeps a.k a.radius a.under a.litems.now a.lcoords.now a.ritems.now a.rcoords.now in
+    let here : List Found = let a = c.args in of_tile_pair kept a.la a.le c.loop-ra.ra c.tile_end-re.result in
+    let after : List Found = let a = c.args in of_tile_leaf kept a.la a.le c.tile_end-re.result a.rend in
+    let first : let a = c.args in of_tile_leaf kept a.la a.le c.loop-ra.ra a.rend ≡ here ++ after = let a = c.args in
+    let f = kept in
+    let x = c.loop-ra.ra in
+    subst (λ (re : ℕ). of_tile_leaf f a.la a.le x a.rend ≡ of_tile_pair f a.la a.le x re ++ of_tile_leaf f a.la a.le re a.rend) (sym c.tile_end-re.ensures) (tile_next f a.la a.le x a.rend c.loop-ra-test.true) in
+    let u = c.loop-ra in
+    let e : c.tile_end-re.result ≡ u.ra + min 32 (c.args.rend - u.ra) = c.tile_end-re.ensures in
+    record { tile_pair = record { pair = right_part u.invariant.2 u.invariant.0 (omega (arith, e)) (omega (arith, e, u.invariant.1)); narrow = omega (arith, e) }; same_rooms = u.invariant.3.same; countable = next_countable u.invariant.3 here after first }
+
+pub loop-ra-preserved : goal.loop-ra-preserved
+loop-ra-preserved c =
+    let kept : ℕ → ℕ → List Found = let a = c.args in keeps a.k a.radius a.under a.litems.now a.lcoords.now a.ritems.now a.rcoords.now in
+    let here : List Found = let a = c.args in of_tile_pair kept a.la a.le c.loop-ra.ra c.tile_end-re.result in
+    let after : List Found = let a = c.args in of_tile_leaf kept a.la a.le c.tile_end-re.result a.rend in
+    let first : let a = c.args in of_tile_leaf kept a.la a.le c.loop-ra.ra a.rend ≡ here ++ after = let a = c.args in
+    let f = kept in
+    let x = c.loop-ra.ra in
+    subst (λ (re : ℕ). of_tile_leaf f a.la a.le x a.rend ≡ of_tile_pair f a.la a.le x re ++ of_tile_leaf f a.la a.le re a.rend) (sym c.tile_end-re.ensures) (tile_next f a.la a.le x a.rend c.loop-ra-test.true) in
+    let u = c.loop-ra in
+    let call = c.tile_pair-n in
+    let e : c.tile_end-re.result ≡ u.ra + min 32 (c.args.rend - u.ra) = c.tile_end-re.ensures in
+    (omega (arith, e, u.invariant.0), omega (arith, e, u.invariant.1), u.invariant.2, next_left u.invariant.3 here after first (omega (arith, call.auto)) (omega (arith, call.auto)) (omega (arith, call.auto)) call.ensures)
+
+pub returns : goal.returns
+returns c =    let a = c.args in
+    let u = c.loop-ra in
+    let f = keeps a.k a.radius a.under a.litems.now a.lcoords.now a.ritems.now a.rcoords.now in
+    none_left u.invariant.3 (tiles_none f a.la a.le u.ra a.rend c.loop-ra-test.false)

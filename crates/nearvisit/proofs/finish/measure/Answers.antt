@@ -1,0 +1,38 @@
+-- The places of both leaves are read; where none can gain the answers stay, else the left leaf's stretch of the answers comes back improved, and nothing else changed. Assumes nothing.
+-- ---- what was read
+-- ---- the needs
+use mathlib.Core.Path.{refl, sym, ◌∙◌}
+use mathlib.Core.List.{[]}
+use native.Mathlib.Omega.{arith}
+use borrow.Author.Tests.{not-true}
+use borrow.Author.Rules.{rules}
+use Rattle.written.specs.Boxes.{Trees, Boxes}
+use Rattle.written.specs.NodePairs.{NodePair, area}
+use Rattle.metric.specs.Flat.{boxes_of}
+use Rattle.leaf.specs.Lent.{LeafPair}
+use Rattle.steps.specs.Lent.{stemless}
+use Rattle.steps.specs.Standing.{pair_at}
+use Rattle.steps.proofs.PlacesRead.{PlacesRead, leaves_read}
+use Rattle.nearvisit.proofs.NoGain.{length_lent, no_gain}
+use Rattle.nearvisit.proofs.Parts.{leaf_put_back}
+use Rattle.nearvisit.proofs.finish.measure.Goals as goal
+
+pub returns-then-not-gains : goal.returns-then-not-gains
+returns-then-not-gains c =
+    let lent : Trees = let a = c.args in stemless a.k a.lstarts.now a.litems.now a.lcoords.now a.rstarts.now a.ritems.now a.rcoords.now in
+    let here : Boxes → NodePair = λ b. pair_at c.args.at b in
+    let read : (b : Boxes) → PlacesRead lent (here b) (area lent (here b)) c.start_of-ls.result c.start_of-lend.result c.start_of-rs.result c.start_of-rend.result = λ b. record { pairs = refl; left_from = c.start_of-ls.ensures; left_to = c.start_of-lend.ensures; right_from = c.start_of-rs.ensures; right_to = c.start_of-rend.ensures } in
+    let leaves : let a = c.args in LeafPair a.k a.litems.now a.lcoords.now c.start_of-ls.result c.start_of-lend.result a.ritems.now a.rcoords.now c.start_of-rs.result c.start_of-rend.result = leaves_read lent (here (boxes_of [] [])) (read (boxes_of [] [])) c.requires.leaves.pair in
+    let a = c.args in
+    let b = boxes_of a.min.now a.max.now in
+    no_gain lent (here b) a.items.now a.dists.now (read b) leaves c.requires.answering (boxes_of [] []) c.requires.box_no_farther (sym c.gains.ensures ∙ not-true c.gains.result c.if-not-gains.true)
+
+pub returns : goal.returns
+returns c =
+    let lent : Trees = let a = c.args in stemless a.k a.lstarts.now a.litems.now a.lcoords.now a.rstarts.now a.ritems.now a.rcoords.now in
+    let here : Boxes → NodePair = λ b. pair_at c.args.at b in
+    let read : (b : Boxes) → PlacesRead lent (here b) (area lent (here b)) c.start_of-ls.result c.start_of-lend.result c.start_of-rs.result c.start_of-rend.result = λ b. record { pairs = refl; left_from = c.start_of-ls.ensures; left_to = c.start_of-lend.ensures; right_from = c.start_of-rs.ensures; right_to = c.start_of-rend.ensures } in
+    let leaves : let a = c.args in LeafPair a.k a.litems.now a.lcoords.now c.start_of-ls.result c.start_of-lend.result a.ritems.now a.rcoords.now c.start_of-rs.result c.start_of-rend.result = leaves_read lent (here (boxes_of [] [])) (read (boxes_of [] [])) c.requires.leaves.pair in
+    let a = c.args in
+    let lent-last = c.update_leaf.new in
+    leaf_put_back lent (here (boxes_of [] [])) a.items.now lent-last.dists.1.1.1.1.1.1.1.1.0 a.dists.now lent-last.1.1.1.1.1.1.1.1.1.1.0 c.start_of-ls.result c.start_of-lend.result c.start_of-rs.result c.start_of-rend.result (read (boxes_of [] [])) leaves c.requires.1.0 c.items-1.given.0 c.dists2.given.0 c.update_leaf.ensures
