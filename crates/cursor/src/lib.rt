@@ -7,14 +7,14 @@ ghost use Rattle.written.specs.NodePairs.{on_side};
 ghost use Rattle.cursor.specs.Held.{node_of, root_over, Splits, side_of, Column};
 
 // A stem place and a leaf place count separate things.
-#[derive(Drop)]
+#[derive(Clone, Copy)]
 pub struct StemIdx(pub u32);
 
-#[derive(Drop)]
+#[derive(Clone, Copy)]
 pub struct LeafIdx(pub u32);
 
 // A node: its stem, its leaves from first up to end, its level, and the levels left below it.
-#[derive(Drop)]
+#[derive(Clone, Copy)]
 pub struct Cursor {
     pub stem: StemIdx,
     pub first: LeafIdx,
@@ -23,7 +23,7 @@ pub struct Cursor {
     pub remaining: u32,
 }
 
-#[derive(Drop)]
+#[derive(Clone, Copy)]
 pub struct Halves {
     pub near: Cursor,
     pub far: Cursor,

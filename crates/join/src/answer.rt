@@ -6,7 +6,7 @@ ghost use Rattle.join.specs.Told.{answer_of};
 
 use steps::Tally;
 
-#[derive(Drop)]
+#[derive(Clone, Copy)]
 pub struct Answer {
     pub number: u32,
     pub side: u32,

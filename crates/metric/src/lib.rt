@@ -63,7 +63,7 @@ pub fn is_top(x: f64) -> bool
 }
 
 // Both boxes, flat: the left side's axis d stands at d, the right side's at 4 + d.
-#[derive(Drop)]
+#[derive(Clone, Copy)]
 pub struct Boxes {
     pub min: [f64; 8],
     pub max: [f64; 8],

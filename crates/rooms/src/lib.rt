@@ -6,7 +6,7 @@ ghost use Rattle.rooms.specs.Rooms.{filling, put, puts, SameRooms};
 ghost use Rattle.rooms.specs.Emitted.{found_of, places_below, pairs_at, Emits};
 
 // A found pair is two item numbers and one distance.
-#[derive(Drop)]
+#[derive(Clone, Copy)]
 pub struct Pair {
     pub left: u32,
     pub right: u32,

@@ -4,7 +4,7 @@ ghost use Rattle.steps.specs.Standing.{SplitsAt, Descended};
 
 use crate::nodes::{Nodes, cursor_of};
 
-#[derive(Drop)]
+#[derive(Clone, Copy)]
 pub struct Descent {
     pub near: Nodes,
     pub far: Nodes,

@@ -6,7 +6,7 @@ ghost use Rattle.steps.specs.Standing.{Within, points_of};
 
 use cursor::Cursor;
 
-#[derive(Drop)]
+#[derive(Clone, Copy)]
 pub struct Nodes {
     pub left: Cursor,
     pub right: Cursor,

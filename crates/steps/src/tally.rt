@@ -4,7 +4,7 @@ ghost use Rattle.written.specs.Totals.{none};
 ghost use Rattle.written.specs.Visits.{ruled, whole, measured};
 ghost use Rattle.steps.specs.Counted.{totals_held, visited, adding};
 
-#[derive(Drop)]
+#[derive(Clone, Copy)]
 pub struct Tally {
     pub found: u64,
     pub visits: u64,

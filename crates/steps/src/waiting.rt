@@ -4,7 +4,7 @@ ghost use Rattle.steps.specs.Popping.{popped_of};
 
 use crate::nodes::Nodes;
 
-#[derive(Drop)]
+#[derive(Clone, Copy)]
 pub enum Waiting {
     Half {
         side: usize,
@@ -22,7 +22,7 @@ pub enum Waiting {
     },
 }
 
-#[derive(Drop)]
+#[derive(Clone, Copy)]
 pub enum Popped {
     Entry(Waiting),
     Nothing,
