@@ -1,4 +1,4 @@
--- Document 01, "The job program": decimal numbers, and distance bits as 16 lowercase hex digits. `digits b k n` is the kit's: the last k digits of n in base b, the most significant first. Assumes nothing.
+-- Document 01, "The job program": decimal numbers, and distance bits as 16 lowercase hex digits. `last_digits b k n`: the last k digits of n in base b, the most significant first. Assumes nothing.
 use Rattle.std.specs.Prelude.{List, cond, ℕ, zero, suc, ◌/◌, ltb}
 use Rattle.printing.specs.Digits.{last_digits}
 
