@@ -27,7 +27,7 @@ digits_step b (suc j) k rest g out some h room e =
 pub loop-i-preserved : goal.loop-i-preserved
 loop-i-preserved c =
     let l = c.loop-i in record {
-      length = simp length-set l.invariant.length;
+      kept = simp length-set l.invariant.kept;
       in_bounds = omega arith;
       digits = digits_step c.args.base l.i c.args.k l.rest c.ascii.result l.out c.loop-i-test.true l.invariant.in_bounds (omega arith) c.ascii.ensures ∙ l.invariant.digits;
     }
