@@ -1,0 +1,63 @@
+-- What is counted and what the right tiles from ra on keep are together what the leaf keeps of this left tile. Assumes nothing.
+use mathlib.Core.Path.{◌≡◌, sym, ap, ◌∙◌, subst}
+use mathlib.Core.List.{List, ◌++◌}
+use Prim.Native.Nat.{ℕ, ◌+◌, ◌-◌, min}
+use native.Mathlib.Omega.{arith}
+use lib.ListN.{length, length-append}
+use Rattle.written.specs.RadiusWalk.{Found}
+use Rattle.leaf.specs.Kept.{keeps, of_tile_pair, of_tile_leaf}
+use Rattle.leaf.proofs.Hits.{counted_next}
+use Rattle.leaf.proofs.Parts.{right_part}
+use Rattle.leaf.proofs.Tiled.{tile_next, tiles_none}
+use Rattle.leafcounts.proofs.tile_leaf_counts.Goals as goal
+
+pub tile_counts-n-requires : goal.tile_counts-n-requires
+tile_counts-n-requires c =
+    let kept : ℕ → ℕ → List Found = let a = c.args in keeps a.k a.radius a.under a.litems.now a.lcoords.now a.ritems.now a.rcoords.now in
+    let first : let a = c.args in let f = kept in let ra = c.loop-ra.ra in of_tile_leaf f a.la a.le ra a.rend ≡ of_tile_pair f a.la a.le ra c.tile_end-re.result ++ of_tile_leaf f a.la a.le c.tile_end-re.result a.rend = let a = c.args in
+    let f = kept in
+    let ra = c.loop-ra.ra in
+    subst (λ (re : ℕ). of_tile_leaf f a.la a.le ra a.rend ≡ of_tile_pair f a.la a.le ra re ++ of_tile_leaf f a.la a.le re a.rend) (sym c.tile_end-re.ensures) (tile_next kept a.la a.le c.loop-ra.ra a.rend c.loop-ra-test.true) in
+    let a = c.args in
+    let f = kept in
+    let l = c.loop-ra in
+    let re = c.tile_end-re.result in
+    let e : re ≡ l.ra + min 32 (a.rend - l.ra) = c.tile_end-re.ensures in
+    let fits = ap length first ∙ length-append (of_tile_pair f a.la a.le l.ra re) (of_tile_leaf f a.la a.le re a.rend) in
+    record { tile_pair = record { pair = right_part l.invariant.2 l.invariant.0 (omega (arith, e)) (omega (arith, e, l.invariant.1)); narrow = omega (arith, e) }; countable = omega (arith, fits, l.invariant.3, l.invariant.4) }
+
+pub overflow_add-n : goal.overflow_add-n
+overflow_add-n c =
+    let kept : ℕ → ℕ → List Found = let a = c.args in keeps a.k a.radius a.under a.litems.now a.lcoords.now a.ritems.now a.rcoords.now in
+    let first : let a = c.args in let f = kept in let ra = c.loop-ra.ra in of_tile_leaf f a.la a.le ra a.rend ≡ of_tile_pair f a.la a.le ra c.tile_end-re.result ++ of_tile_leaf f a.la a.le c.tile_end-re.result a.rend = let a = c.args in
+    let f = kept in
+    let ra = c.loop-ra.ra in
+    subst (λ (re : ℕ). of_tile_leaf f a.la a.le ra a.rend ≡ of_tile_pair f a.la a.le ra re ++ of_tile_leaf f a.la a.le re a.rend) (sym c.tile_end-re.ensures) (tile_next kept a.la a.le c.loop-ra.ra a.rend c.loop-ra-test.true) in
+    let left : let a = c.args in let f = kept in let l = c.loop-ra in l.n + c.tile_counts-n.result + length (of_tile_leaf f a.la a.le c.tile_end-re.result a.rend) ≡ length (of_tile_leaf f a.la a.le a.rs a.rend) = let a = c.args in
+    let f = kept in
+    let l = c.loop-ra in
+    let re = c.tile_end-re.result in
+    counted_next l.n _ (of_tile_pair f a.la a.le l.ra re) (of_tile_leaf f a.la a.le re a.rend) l.invariant.3 first c.tile_counts-n.ensures in
+    omega (arith, left, c.loop-ra.invariant.4)
+
+pub loop-ra-preserved : goal.loop-ra-preserved
+loop-ra-preserved c =
+    let kept : ℕ → ℕ → List Found = let a = c.args in keeps a.k a.radius a.under a.litems.now a.lcoords.now a.ritems.now a.rcoords.now in
+    let first : let a = c.args in let f = kept in let ra = c.loop-ra.ra in of_tile_leaf f a.la a.le ra a.rend ≡ of_tile_pair f a.la a.le ra c.tile_end-re.result ++ of_tile_leaf f a.la a.le c.tile_end-re.result a.rend = let a = c.args in
+    let f = kept in
+    let ra = c.loop-ra.ra in
+    subst (λ (re : ℕ). of_tile_leaf f a.la a.le ra a.rend ≡ of_tile_pair f a.la a.le ra re ++ of_tile_leaf f a.la a.le re a.rend) (sym c.tile_end-re.ensures) (tile_next kept a.la a.le c.loop-ra.ra a.rend c.loop-ra-test.true) in
+    let left : let a = c.args in let f = kept in let l = c.loop-ra in l.n + c.tile_counts-n.result + length (of_tile_leaf f a.la a.le c.tile_end-re.result a.rend) ≡ length (of_tile_leaf f a.la a.le a.rs a.rend) = let a = c.args in
+    let f = kept in
+    let l = c.loop-ra in
+    let re = c.tile_end-re.result in
+    counted_next l.n _ (of_tile_pair f a.la a.le l.ra re) (of_tile_leaf f a.la a.le re a.rend) l.invariant.3 first c.tile_counts-n.ensures in
+    let l = c.loop-ra in
+    let e = c.tile_end-re.ensures in
+    (omega (arith, e, l.invariant.0), omega (arith, e, l.invariant.1), l.invariant.2, left, l.invariant.4)
+
+pub returns : goal.returns
+returns c =
+    let kept : ℕ → ℕ → List Found = let a = c.args in keeps a.k a.radius a.under a.litems.now a.lcoords.now a.ritems.now a.rcoords.now in
+    let l = c.loop-ra in
+    omega (arith, l.invariant.3, ap length (tiles_none kept c.args.la c.args.le l.ra c.args.rend c.loop-ra-test.false))

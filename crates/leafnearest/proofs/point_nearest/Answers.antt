@@ -1,0 +1,30 @@
+-- What the sums and the last column offer are the right point's distances; where none is smaller, nothing changes. Assumes nothing.
+use mathlib.Core.Path.{◌≡◌, sym, ◌∙◌}
+use Prim.Native.Nat.{suc, ◌+◌, ◌-◌, ◌*◌, ◌<◌}
+use native.Mathlib.Omega.{arith}
+use lib.ListN.{length, get_or}
+use Rattle.metric.specs.Lent.{point_at}
+use Rattle.metric.proofs.Laws.{inside}
+use Rattle.leaf.specs.Lent.{join_of}
+use Rattle.leaf.specs.Sums.{reached}
+use Rattle.leaf.proofs.Growing.{tile_column}
+use Rattle.leafnearest.specs.Answers.{answers, offered, improved}
+use Rattle.leafnearest.proofs.Improved.{none_offered, offered_point}
+use Rattle.leafnearest.proofs.Stored.{length_answers}
+use Rattle.leafnearest.proofs.point_nearest.Goals as goal
+
+pub returns-then-improving-eq0 : goal.returns-then-improving-eq0
+returns-then-improving-eq0 c =
+    let point : let a = c.args in let was = answers a.items.now a.dists.now in offered (reached c.first_axes.new.sums (point_at a.rcoords.now (length a.ritems.now) a.q (a.k - 1)) c.tile-column.result.now) (get_or a.ritems.now a.q 0) was ≡ improved (join_of a.k a.litems.now a.lcoords.now a.ritems.now a.rcoords.now) a.la a.q (suc a.q) was = let a = c.args in
+    let same : length a.items.now ≡ length a.dists.now = omega (arith, c.requires.answering) in
+    offered_point a.k a.litems.now a.lcoords.now a.ritems.now a.rcoords.now a.la (a.le - a.la) a.q c.first_axes.new.sums c.tile-column.result.now c.requires.point_tile.some_axes c.first_axes.ensures.0 c.tile-column.ensures.0 (answers a.items.now a.dists.now) (length_answers a.items.now a.dists.now same ∙ c.requires.1.1) in
+    let a = c.args in
+    let t = c.tile-column.ensures.1 in
+    (sym (none_offered _ (get_or a.ritems.now a.q 0) a.items.now a.dists.now _ (c.requires.1.0 ∙ sym t) (c.requires.1.1 ∙ sym t) (sym c.improving.ensures ∙ c.if-improving-eq0.true)) ∙ point, c.first_axes.ensures.1)
+
+pub returns : goal.returns
+returns c =
+    let point : let a = c.args in let was = answers a.items.now a.dists.now in offered (reached c.first_axes.new.sums (point_at a.rcoords.now (length a.ritems.now) a.q (a.k - 1)) c.tile-column.result.now) (get_or a.ritems.now a.q 0) was ≡ improved (join_of a.k a.litems.now a.lcoords.now a.ritems.now a.rcoords.now) a.la a.q (suc a.q) was = let a = c.args in
+    let same : length a.items.now ≡ length a.dists.now = omega (arith, c.requires.answering) in
+    offered_point a.k a.litems.now a.lcoords.now a.ritems.now a.rcoords.now a.la (a.le - a.la) a.q c.first_axes.new.sums c.tile-column.result.now c.requires.point_tile.some_axes c.first_axes.ensures.0 c.tile-column.ensures.0 (answers a.items.now a.dists.now) (length_answers a.items.now a.dists.now same ∙ c.requires.1.1) in
+    (c.keep_nearer.ensures ∙ point, c.first_axes.ensures.1)
