@@ -2,14 +2,16 @@
 ghost use Rattle.std.specs.Prelude.{◌*◌, ◌<◌, ◌≤◌, length};
 
 use crate::show::show;
+use std::io;
 
 // Every prefix but the whole.
-fn prefixes(job: &[u8]) {
+fn prefixes(rt: &impl Print, job: &[u8]) -> io::Result<()> {
     let mut n = 0;
     while n < job.len() {
-        show(b"prefix ", n as u64, &job[..n]);
+        show(rt, b"prefix ", n as u64, &job[..n])?;
         n += 1;
     }
+    Ok(())
 }
 
 // The byte with bit k changed.
@@ -20,31 +22,33 @@ fn flipped(byte: u8, k: usize) -> u8
 }
 
 // Bit b changed, and changed back.
-fn bit(job: &mut [u8], b: usize)
+fn bit(rt: &impl Print, job: &mut [u8], b: usize) -> io::Result<()>
     requires { b < 8 * length job.old }
 {
     let i = b / 8;
     let kept = job[i];
     job[i] = flipped(kept, b % 8);
-    show(b"bit ", b as u64, job);
+    let shown = show(rt, b"bit ", b as u64, job);
     job[i] = kept;
+    shown
 }
 
 // Every bit.
-fn bits(job: &mut [u8])
+fn bits(rt: &impl Print, job: &mut [u8]) -> io::Result<()>
     requires { length job.old ≤ 131072 }
 {
     let mut b = 0;
     while b < 8 * job.len() {
-        bit(&mut *job, b);
+        bit(rt, &mut *job, b)?;
         b += 1;
     }
+    Ok(())
 }
 
 // A job in every way that it can be cut short, and with every bit changed.
-pub fn changed(job: &mut [u8])
+pub fn changed(rt: &impl Print, job: &mut [u8]) -> io::Result<()>
     requires { length job.old ≤ 131072 }
 {
-    prefixes(job);
-    bits(job);
+    prefixes(rt, job)?;
+    bits(rt, job)
 }

@@ -6,15 +6,17 @@
 #![tactic(auto)]
 
 mod changes;
+mod input;
 mod records;
 mod show;
 
-use libc::STDIN_FILENO;
+use std::io;
 
-fn main() {
+fn main(rt: HostRuntime) -> io::Result<()> {
     let mut input = [0u8; 131072];
-    let n = io::read_full(STDIN_FILENO, &mut input);
-    if crate::records::all(&input[..n]) {
-        crate::records::first(&mut input[..n]);
+    let n = crate::input::read_full(&mut rt.stdin(), &mut input)?;
+    if crate::records::all(&rt, &input[..n])? {
+        crate::records::first(&rt, &mut input[..n])?;
     }
+    Ok(())
 }

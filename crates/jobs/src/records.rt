@@ -4,8 +4,8 @@ ghost use Rattle.jobs.specs.Ends.{Ends};
 
 use crate::changes::changed;
 use crate::show::show;
-use libc::STDOUT_FILENO;
 use reading::u32_at;
+use std::io;
 
 #[derive(Drop)]
 pub enum End {
@@ -30,28 +30,28 @@ fn end_of(s: &[u8], at: usize) -> End
 }
 
 // Every job in order; whether the input ends where a record does.
-pub fn all(s: &[u8]) -> bool {
+pub fn all(rt: &impl Print, s: &[u8]) -> io::Result<bool> {
     let mut at = 0;
     let mut i = 0;
     while at < s.len() {
         let End::At(end) = end_of(s, at) else {
-            io::write_all(STDOUT_FILENO, b"cut short\n");
-            return false;
+            rt.println("cut short")?;
+            return Ok(false);
         };
         let job = at + 4;
-        show(b"job ", i, &s[job..end]);
+        show(rt, b"job ", i, &s[job..end])?;
         at = end;
         i += 1;
     }
-    true
+    Ok(true)
 }
 
 // The first job, cut short and changed.
-pub fn first(s: &mut [u8])
+pub fn first(rt: &impl Print, s: &mut [u8]) -> io::Result<()>
     requires { length s.old ≤ 131072 }
 {
     let End::At(end) = end_of(s, 0) else {
-        return;
+        return Ok(());
     };
-    changed(&mut s[4..end]);
+    changed(rt, &mut s[4..end])
 }

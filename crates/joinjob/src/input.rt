@@ -2,6 +2,8 @@
 ghost use Rattle.std.specs.Prelude.{length};
 ghost use Rattle.joinjob.specs.Read.{Read};
 
+use std::io;
+
 #[derive(Drop)]
 pub enum Input {
     Bytes(usize),
@@ -9,23 +11,22 @@ pub enum Input {
 }
 
 // One read: how many bytes it put in front, none at the end of the input.
-fn read_once(fd: i32, out: &mut [u8]) -> Input
+fn read_once<R: io::Read>(from: &mut R, out: &mut [u8]) -> Input
     ensures { Read (length out.old) result }
 {
-    let got = libc::read(fd, &mut *out);
-    if got < 0 {
-        return Input::Failed;
+    match from.read(out) {
+        Ok(n) => Input::Bytes(n),
+        Err(_) => Input::Failed,
     }
-    Input::Bytes(io::count(got, out))
 }
 
 // Reads until there is no room, the input ends or a read fails.
-pub fn read_job(fd: i32, out: &mut [u8]) -> Input
+pub fn read_job<R: io::Read>(from: &mut R, out: &mut [u8]) -> Input
     ensures { Read (length out.old) result }
 {
     let mut done = 0;
     while done < out.len() {
-        let Input::Bytes(more) = read_once(fd, &mut out[done..]) else {
+        let Input::Bytes(more) = read_once(from, &mut out[done..]) else {
             return Input::Failed;
         };
         if more == 0 {

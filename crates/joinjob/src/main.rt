@@ -4,21 +4,17 @@
 mod input;
 
 use crate::input::{Input, read_job};
-use libc::{STDERR_FILENO, STDIN_FILENO, STDOUT_FILENO};
 
-fn main() {
+fn main(rt: HostRuntime) {
     // One byte above the limit, so that a job too long is told as such.
     let mut bytes = [0u8; 16385];
-    let Input::Bytes(n) = read_job(STDIN_FILENO, &mut bytes) else {
-        io::write_all(STDERR_FILENO, b"joinjob: standard input cannot be read\n");
+    let Input::Bytes(n) = read_job(&mut rt.stdin(), &mut bytes) else {
+        let _ = rt.eprintln("joinjob: standard input cannot be read");
         return;
     };
     let mut text = [0u8; 65536];
     let k = job::run(&bytes[..n], &mut text);
-    if !io::write_all(STDOUT_FILENO, &text[..k]) {
-        io::write_all(
-            STDERR_FILENO,
-            b"joinjob: standard output cannot be written\n",
-        );
+    if rt.write_all(&text[..k]).is_err() {
+        let _ = rt.eprintln("joinjob: standard output cannot be written");
     }
 }

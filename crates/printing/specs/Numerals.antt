@@ -1,6 +1,6 @@
--- Document 01, "The job program": decimal numbers, and distance bits as 16 lowercase hex digits. `digits b k n` is the kit's: the last k digits of n in base b, the most significant first. Assumes nothing.
+-- Document 01, "The job program": decimal numbers, and distance bits as 16 lowercase hex digits. `last_digits b k n`: the last k digits of n in base b, the most significant first. Assumes nothing.
 use Rattle.std.specs.Prelude.{List, cond, ℕ, zero, suc, ◌/◌, ltb}
-use Rattle.io.specs.Digits.{last_digits}
+use Rattle.printing.specs.Digits.{last_digits}
 
 -- how many decimal digits n has: one below ten, else one more than a tenth of it; `fuel` is no less than n
 unfoldable pub places : (fuel n : ℕ) → ℕ

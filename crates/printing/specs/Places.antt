@@ -2,7 +2,7 @@
 use Rattle.std.specs.Prelude.{◌≡◌, refl, Bool, true, false, cond, ℕ, zero, suc, ◌-◌, ◌*◌, ◌/◌, ◌^◌, ◌≤◌, ◌<◌, ltb, leb}
 use Rattle.std.proofs.Common.{sym, ap, subst, ◌∙◌, le_refl, pow-suc, div-lt_iff_lt-mul, le-div_iff_mul-le, arith, ltb-true, ltb-false, leb-true, leb-false}
 use Rattle.std.proofs.Math.Nat.{pow-le-pow_right}
-use Rattle.io.specs.Digits.{IsDigitCount, last_digits}
+use Rattle.printing.specs.Digits.{IsDigitCount, last_digits}
 use Rattle.printing.specs.Numerals.{places, decimal}
 
 some_ten : 0 < 10

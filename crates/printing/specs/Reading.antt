@@ -5,7 +5,7 @@ use Rattle.std.proofs.Math.Nat.{pow-zero}
 use Rattle.std.specs.Float.{binary64}
 use Rattle.std.specs.Float.Ieee.{fits, of_bits, to_bits}
 use Rattle.std.specs.Float.Ieee.Bits.{of_bits-to_bits, to_bits-lt}
-use Rattle.io.specs.Digits.{hex_digit_ascii, last_digits}
+use Rattle.printing.specs.Digits.{hex_digit_ascii, last_digits}
 use Rattle.printing.specs.Numerals.{decimal, hexadecimal}
 use Rattle.printing.specs.Places.{held}
 

@@ -3,6 +3,7 @@
 
 mod answer;
 mod bytes;
+mod digits;
 mod numerals;
 
 pub use crate::answer::{head, lines, refused, totals};

@@ -5,7 +5,7 @@ ghost use Rattle.reading.specs.Lays.{LaidOut};
 use crate::little::u32_at;
 
 // Where each part begins, where the tree ends, and how many numbers each part has.
-#[derive(Drop)]
+#[derive(Clone, Copy)]
 pub struct Layout {
     pub starts: usize,
     pub stems: usize,
@@ -19,7 +19,7 @@ pub struct Layout {
 }
 
 // A tree within the job, or none.
-#[derive(Drop)]
+#[derive(Clone, Copy)]
 pub enum Laid {
     Tree(Layout),
     Wrong,

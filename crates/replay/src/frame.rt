@@ -5,7 +5,7 @@ ghost use Rattle.replay.specs.Framed.{Framed};
 use reading::{u32_at, u64_at};
 
 // Where the job, the answer, the pairs and the text begin and where the record ends; the room, and the buffer lent at another length.
-#[derive(Drop)]
+#[derive(Clone, Copy)]
 pub struct Frame {
     pub job: usize,
     pub answer: usize,

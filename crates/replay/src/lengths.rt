@@ -4,7 +4,7 @@ ghost use Rattle.replay.specs.Fits.{Fits};
 
 use reading::Layout;
 
-#[derive(Drop)]
+#[derive(Clone, Copy)]
 pub struct Lengths {
     pub lstarts: usize,
     pub lstems: usize,

@@ -15,26 +15,27 @@
 mod calls;
 mod compare;
 mod frame;
+mod input;
 mod lengths;
 mod print;
 mod record;
 mod tally;
 mod text;
 
-ghost use Rattle.io.specs.Counts.{IsPrefixLen};
+ghost use Rattle.std.specs.Io.{ReadsAtMost};
 
-use libc::STDIN_FILENO;
+use std::io;
 
 // All of the input. The array is lent as such: a proof over so many zeros themselves would take its time.
-fn fill(input: &mut [u8; 1048576]) -> usize
-    ensures { IsPrefixLen result input.new }
+fn fill(from: &mut io::Stdin, input: &mut [u8; 1048576]) -> io::Result<usize>
+    ensures { ReadsAtMost result input.new }
 {
-    io::read_full(STDIN_FILENO, &mut *input)
+    crate::input::read_full(from, input)
 }
 
-fn main() {
+fn main(rt: HostRuntime) -> io::Result<()> {
     let mut input = [0u8; 1048576];
-    let n = fill(&mut input);
+    let n = fill(&mut rt.stdin(), &mut input)?;
     let t = crate::record::replay(&input[..n]);
-    crate::print::lines(t);
+    crate::print::lines(&rt, t)
 }

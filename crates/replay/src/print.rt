@@ -2,15 +2,12 @@
 ghost use Rattle.std.specs.Prelude.{◌≡◌, ◌<◌};
 
 use crate::tally::{TEXT, Tally};
-use libc::STDOUT_FILENO;
+use std::io;
 
 // One line: a name and two numbers.
-fn line(name: &[u8], made: u64, different: u64) {
-    io::write_all(STDOUT_FILENO, name);
-    io::print_decimal(STDOUT_FILENO, made);
-    io::write_all(STDOUT_FILENO, b" different ");
-    io::print_decimal(STDOUT_FILENO, different);
-    io::write_all(STDOUT_FILENO, b"\n");
+fn line(rt: &impl Print, name: &[u8], made: u64, different: u64) -> io::Result<()> {
+    rt.write_all(name)?;
+    println!(rt; "{made} different {different}")
 }
 
 // A number, with its bound.
@@ -26,22 +23,22 @@ fn sum(n: [u32; 7]) -> u64 {
 }
 
 // The line of one kind.
-fn kind_line(name: &[u8], t: Tally, kind: usize)
+fn kind_line(rt: &impl Print, name: &[u8], t: Tally, kind: usize) -> io::Result<()>
     requires { kind < 7 }
 {
-    line(name, wide(t.made[kind]), wide(t.different[kind]));
+    line(rt, name, wide(t.made[kind]), wide(t.different[kind]))
 }
 
 // A line for each kind, and one for all joins.
-pub fn lines(t: Tally) {
-    kind_line(b"pairs up to: joins ", t, 0);
-    kind_line(b"pairs under: joins ", t, 1);
-    kind_line(b"counts up to: joins ", t, 2);
-    kind_line(b"counts under: joins ", t, 3);
-    kind_line(b"nearest: joins ", t, 4);
-    kind_line(b"texts: jobs ", t, TEXT);
-    kind_line(b"unreadable: joins ", t, 5);
+pub fn lines(rt: &impl Print, t: Tally) -> io::Result<()> {
+    kind_line(rt, b"pairs up to: joins ", t, 0)?;
+    kind_line(rt, b"pairs under: joins ", t, 1)?;
+    kind_line(rt, b"counts up to: joins ", t, 2)?;
+    kind_line(rt, b"counts under: joins ", t, 3)?;
+    kind_line(rt, b"nearest: joins ", t, 4)?;
+    kind_line(rt, b"texts: jobs ", t, TEXT)?;
+    kind_line(rt, b"unreadable: joins ", t, 5)?;
     let made = t.made;
     let different = t.different;
-    line(b"all: joins ", sum(made), sum(different));
+    line(rt, b"all: joins ", sum(made), sum(different))
 }

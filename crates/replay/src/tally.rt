@@ -3,7 +3,7 @@ ghost use Rattle.std.specs.Prelude.{◌<◌};
 
 pub const TEXT: usize = 6;
 
-#[derive(Drop)]
+#[derive(Clone, Copy)]
 pub struct Tally {
     pub made: [u32; 7],
     pub different: [u32; 7],

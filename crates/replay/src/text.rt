@@ -4,5 +4,5 @@
 pub fn text_same(job: &[u8], text: &[u8]) -> bool {
     let mut out = [0u8; 65536];
     let n = job::run(job, &mut out);
-    check::same(&out[..n], text)
+    &out[..n] == text
 }

@@ -1,0 +1,14 @@
+use Rattle.std.proofs.Common.{◌≤◌, arith}
+use Rattle.printing.specs.Places.{at_most}
+use Rattle.printing.proofs.digits.hex_digits.Goals as goal
+use Rattle.printing.proofs.digits.hex_digits.Goals.{After-count-k}
+
+-- sixteen digits hold a u64
+held : (c : goal.After-count-k) → c.count-k.result ≤ 16
+held c = at_most 16 c.args.width 16 c.args.n c.count-k.result (omega arith) (omega arith) (omega arith) c.count-k.ensures
+
+pub store-requires-clause-in_bounds : goal.store-requires-clause-in_bounds
+store-requires-clause-in_bounds c = omega (arith, held (goal.at.store-requires-clause-in_bounds c).After-count-k)
+
+pub returns-clause-in_bounds : goal.returns-clause-in_bounds
+returns-clause-in_bounds c = omega (arith, held (goal.at.returns-clause-in_bounds c).After-count-k)

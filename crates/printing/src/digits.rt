@@ -1,0 +1,69 @@
+// The digits of a number, in ASCII.
+ghost use Rattle.std.specs.Prelude.{◌≡◌, ◌<◌, ◌≤◌, length, take};
+ghost use Rattle.printing.specs.Digits.{hex_digit_ascii, last_digits, IsDigitCount};
+
+// How many digits n takes in a base, or `width` where that is more.
+fn count(n: u64, base: u64, width: usize) -> usize
+    requires some { 1 < base }
+    requires padded { 0 < width }
+    ensures { IsDigitCount base width n result }
+{
+    let mut k = 1;
+    let mut rest = n / base;
+    while rest > 0 {
+        rest /= base;
+        k += 1;
+    }
+    if k < width { width } else { k }
+}
+
+// A digit: `0` to `9`, then `a` to `f`.
+fn ascii(d: u64) -> u8
+    requires { d < 16 }
+    ensures { result ≡ hex_digit_ascii d }
+{
+    if d < 10 {
+        return b'0' + d as u8;
+    }
+    b'a' - 10 + d as u8
+}
+
+// The last k digits of n in a base, the most significant first, at the start of out.
+fn store(n: u64, base: u64, k: usize, out: &mut [u8])
+    requires some { 0 < base }
+    requires few { base ≤ 16 }
+    requires in_bounds { k ≤ length out.old }
+    ensures { take k out.new ≡ last_digits base k n }
+{
+    let mut i = k;
+    let mut rest = n;
+    while i > 0 {
+        i -= 1;
+        out[i] = ascii(rest % base);
+        rest /= base;
+    }
+}
+
+// The decimal digits of n, at the start of out; how many there are.
+pub fn decimal_digits(n: u64, out: &mut [u8; 20]) -> usize
+    ensures in_bounds { result ≤ length out.new }
+    ensures len { IsDigitCount 10 1 n result }
+    ensures digits { take result out.new ≡ last_digits 10 result n }
+{
+    let k = count(n, 10, 1);
+    store(n, 10, k, out);
+    k
+}
+
+// The hexadecimal digits of n, in lower case, at the start of out, with zeros in front up to `width` digits; how many there are.
+pub fn hex_digits(n: u64, width: usize, out: &mut [u8; 16]) -> usize
+    requires padded { 0 < width }
+    requires held { width ≤ 16 }
+    ensures in_bounds { result ≤ length out.new }
+    ensures len { IsDigitCount 16 width n result }
+    ensures digits { take result out.new ≡ last_digits 16 result n }
+{
+    let k = count(n, 16, width);
+    store(n, 16, k, out);
+    k
+}
