@@ -3,9 +3,6 @@
 -- ---- the needs
 use mathlib.Core.Path.{refl, sym, ◌∙◌}
 use mathlib.Core.List.{[]}
-use native.Mathlib.Omega.{arith}
-use borrow.Author.Tests.{not-true}
-use borrow.Author.Rules.{rules}
 use Rattle.written.specs.Boxes.{Trees, Boxes}
 use Rattle.written.specs.NodePairs.{NodePair, area}
 use Rattle.metric.specs.Flat.{boxes_of}
@@ -13,7 +10,7 @@ use Rattle.leaf.specs.Lent.{LeafPair}
 use Rattle.steps.specs.Lent.{stemless}
 use Rattle.steps.specs.Standing.{pair_at}
 use Rattle.steps.proofs.PlacesRead.{PlacesRead, leaves_read}
-use Rattle.nearvisit.proofs.NoGain.{length_lent, no_gain}
+use Rattle.nearvisit.proofs.NoGain.{no_gain}
 use Rattle.nearvisit.proofs.Parts.{leaf_put_back}
 use Rattle.nearvisit.proofs.finish.measure.Goals as goal
 
@@ -25,7 +22,7 @@ returns-then-not-gains c =
     let leaves : let a = c.args in LeafPair a.k a.litems.now a.lcoords.now c.start_of-ls.result c.start_of-lend.result a.ritems.now a.rcoords.now c.start_of-rs.result c.start_of-rend.result = leaves_read lent (here (boxes_of [] [])) (read (boxes_of [] [])) c.requires.leaves.pair in
     let a = c.args in
     let b = boxes_of a.min.now a.max.now in
-    no_gain lent (here b) a.items.now a.dists.now (read b) leaves c.requires.answering (boxes_of [] []) c.requires.box_no_farther (sym c.gains.ensures ∙ not-true c.gains.result c.if-not-gains.true)
+    no_gain lent (here b) a.items.now a.dists.now (read b) leaves c.requires.answering (boxes_of [] []) c.requires.box_no_farther (sym c.gains.ensures ∙ c.if-not-gains.true)
 
 pub returns : goal.returns
 returns c =
@@ -35,4 +32,4 @@ returns c =
     let leaves : let a = c.args in LeafPair a.k a.litems.now a.lcoords.now c.start_of-ls.result c.start_of-lend.result a.ritems.now a.rcoords.now c.start_of-rs.result c.start_of-rend.result = leaves_read lent (here (boxes_of [] [])) (read (boxes_of [] [])) c.requires.leaves.pair in
     let a = c.args in
     let lent-last = c.update_leaf.new in
-    leaf_put_back lent (here (boxes_of [] [])) a.items.now lent-last.dists.1.1.1.1.1.1.1.1.0 a.dists.now lent-last.1.1.1.1.1.1.1.1.1.1.0 c.start_of-ls.result c.start_of-lend.result c.start_of-rs.result c.start_of-rend.result (read (boxes_of [] [])) leaves c.requires.1.0 c.items-1.given.0 c.dists2.given.0 c.update_leaf.ensures
+    leaf_put_back lent (here (boxes_of [] [])) a.items.now lent-last.items a.dists.now lent-last.dists c.start_of-ls.result c.start_of-lend.result c.start_of-rs.result c.start_of-rend.result (read (boxes_of [] [])) leaves c.requires.answering c.items-1.given.0 c.dists-1.given.0 c.update_leaf.ensures
