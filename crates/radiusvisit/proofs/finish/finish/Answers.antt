@@ -1,18 +1,14 @@
 -- Each fate: what was found and counted is that of a visit that ends so. Assumes nothing.
 use mathlib.Core.Path.{◌≡◌, ap}
 use mathlib.Core.List.{[]}
-use Prim.Native.Nat.{◌^◌, ◌≤◌}
-use native.Mathlib.Omega.{arith}
-use borrow.Author.Rules.{rules}
-use Rattle.written.specs.Visits.{measured, ruled, whole}
+use Rattle.written.specs.Visits.{ruled}
 use Rattle.written.specs.Boxes.{Trees}
-use Rattle.written.specs.NodePairs.{NodePair, area}
+use Rattle.written.specs.NodePairs.{NodePair}
 use Rattle.metric.specs.Flat.{boxes_of}
 use Rattle.steps.specs.Lent.{stemless}
 use Rattle.steps.specs.Standing.{pair_at}
-use Rattle.steps.proofs.PlacesRead.{area_few}
 use Rattle.radiusvisit.specs.Moves.{fate_of}
-use Rattle.radiusvisit.proofs.Ended.{ruled_none, whole_all}
+use Rattle.radiusvisit.proofs.Ended.{ruled_none}
 use Rattle.radiusvisit.proofs.finish.finish.Goals as goal
 
 pub returns-in-RuledOut : goal.returns-in-RuledOut
@@ -20,5 +16,5 @@ returns-in-RuledOut c =
     let lent : Trees = let a = c.args in stemless a.k a.lstarts.now a.litems.now a.lcoords.now a.rstarts.now a.ritems.now a.rcoords.now in
     let here : NodePair = pair_at c.args.at (boxes_of [] []) in
     let a = c.args in
-    let k : fate_of a.fate ≡ ruled = ap fate_of c.enum_told-in-RuledOut-1.given.1 in
+    let k : fate_of a.fate ≡ ruled = ap fate_of c.in-RuledOut.is in
     rw k (ruled_none lent a.radius a.under here a.t c.ruled_out.result a.counting a.lout.now a.rout.now a.dout.now c.area.ensures c.ruled_out.ensures.0 c.ruled_out.ensures.1)
