@@ -10,7 +10,7 @@ use Rattle.job.proofs.Deciding.{sized, header_printed, length_printed, joined_pr
 use Rattle.job.proofs.run.Goals as goal
 
 pub returns-then-number-ne0 : goal.returns-then-number-ne0
-returns-then-number-ne0 c =    let r = c.refused.ensures in
+returns-then-number-ne0 c = let r = c.refused.ensures in
     let h = c.header_refusal-number.ensures in
     finished _ r.puts (ap (λ (n : ℕ). refused_line n 0) h ∙ header_printed _ (λ e. c.if-number-ne0.true (h ∙ e))) (omega (arith, r.upper_bound))
 

@@ -18,10 +18,10 @@ unfolding div of_bits
 no_number = refl
 
 pub float_from_bits-result : goal.float_from_bits-result
-float_from_bits-result c =    subst (λ (b : Bool). T (not b)) (sym (nan_bits_above binary64 c.args.bits ∙ le-ltb _ _ c.if-magnitude-le9218868437227405312.true)) tt
+float_from_bits-result c = subst (λ (b : Bool). T (not b)) (sym (nan_bits_above binary64 c.args.bits ∙ le-ltb _ _ c.if-magnitude-le9218868437227405312.true)) tt
 
 pub returns : goal.returns
-returns c =    no_number
+returns c = no_number
     ∙ is-nan
     _
     (sym (nan_bits_is binary64 c.args.bits)
