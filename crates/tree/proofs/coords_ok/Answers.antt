@@ -7,13 +7,13 @@ use Rattle.std.proofs.Common.{◌∙◌}
 use Rattle.tree.proofs.coords_ok.Goals as goal
 
 pub returns-then-not-finite : goal.returns-then-not-finite
-returns-then-not-finite c =    let l = c.loop-i in
+returns-then-not-finite c = let l = c.loop-i in
     fails_at (test c.args.coords.now) _ l.i c.loop-i-test.true l.invariant ((sym c.finite.ensures ∙ c.if-not-finite.true))
 
 pub loop-i-preserved : goal.loop-i-preserved
-loop-i-preserved c =    let l = c.loop-i in
+loop-i-preserved c = let l = c.loop-i in
     passes_at (test c.args.coords.now) _ l.i c.loop-i-test.true l.invariant ((sym c.finite.ensures ∙ c.if-not-finite.false))
 
 pub returns : goal.returns
-returns c =    let l = c.loop-i in
+returns c = let l = c.loop-i in
     all_passed (test c.args.coords.now) _ l.i (omega arith) l.invariant

@@ -43,11 +43,11 @@ slice_bounds-halves_ok-count c =
     let stands : Stands c.args.k tree-of (node_of c.args.c) = c.requires.0 in
     let middle_is : c.split-halves.result.far.first.0 ≡ middle (node_of c.args.c) = ap (λ (n : Cursor). n.first) c.split-halves.ensures.far_value in
     let reckoned : Reckoned c.args.k tree-of (node_of c.args.c) c.axis.result c.start_of.result c.start_of-2.result c.start_of-3.result = record {
-  axis_is = c.axis.ensures;
-  first_is = c.start_of.ensures;
-  middle_is = c.start_of-2.ensures ∙ ap (start tree-of) middle_is;
-  end_is = c.start_of-3.ensures;
-} in
+      axis_is = c.axis.ensures;
+      first_is = c.start_of.ensures;
+      middle_is = c.start_of-2.ensures ∙ ap (start tree-of) middle_is;
+      end_is = c.start_of-3.ensures;
+    } in
     omega (arith, lies stands reckoned)
 
 pub slice_bounds-halves_ok-start : goal.slice_bounds-halves_ok-start
@@ -56,11 +56,11 @@ slice_bounds-halves_ok-start c =
     let stands : Stands c.args.k tree-of (node_of c.args.c) = c.requires.0 in
     let middle_is : c.split-halves.result.far.first.0 ≡ middle (node_of c.args.c) = ap (λ (n : Cursor). n.first) c.split-halves.ensures.far_value in
     let reckoned : Reckoned c.args.k tree-of (node_of c.args.c) c.axis.result c.start_of.result c.start_of-2.result c.start_of-3.result = record {
-  axis_is = c.axis.ensures;
-  first_is = c.start_of.ensures;
-  middle_is = c.start_of-2.ensures ∙ ap (start tree-of) middle_is;
-  end_is = c.start_of-3.ensures;
-} in
+      axis_is = c.axis.ensures;
+      first_is = c.start_of.ensures;
+      middle_is = c.start_of-2.ensures ∙ ap (start tree-of) middle_is;
+      end_is = c.start_of-3.ensures;
+    } in
     omega (arith, lies stands reckoned)
 
 pub slice_bounds-halves_ok-end : goal.slice_bounds-halves_ok-end
@@ -69,11 +69,11 @@ slice_bounds-halves_ok-end c =
     let stands : Stands c.args.k tree-of (node_of c.args.c) = c.requires.0 in
     let middle_is : c.split-halves.result.far.first.0 ≡ middle (node_of c.args.c) = ap (λ (n : Cursor). n.first) c.split-halves.ensures.far_value in
     let reckoned : Reckoned c.args.k tree-of (node_of c.args.c) c.axis.result c.start_of.result c.start_of-2.result c.start_of-3.result = record {
-  axis_is = c.axis.ensures;
-  first_is = c.start_of.ensures;
-  middle_is = c.start_of-2.ensures ∙ ap (start tree-of) middle_is;
-  end_is = c.start_of-3.ensures;
-} in
+      axis_is = c.axis.ensures;
+      first_is = c.start_of.ensures;
+      middle_is = c.start_of-2.ensures ∙ ap (start tree-of) middle_is;
+      end_is = c.start_of-3.ensures;
+    } in
     omega (arith, lies stands reckoned)
 
 pub slice_bounds-halves_ok-count-2 : goal.slice_bounds-halves_ok-count-2
@@ -82,11 +82,11 @@ slice_bounds-halves_ok-count-2 c =
     let stands : Stands c.args.k tree-of (node_of c.args.c) = c.requires.0 in
     let middle_is : c.split-halves.result.far.first.0 ≡ middle (node_of c.args.c) = ap (λ (n : Cursor). n.first) c.split-halves.ensures.far_value in
     let reckoned : Reckoned c.args.k tree-of (node_of c.args.c) c.axis.result c.start_of.result c.start_of-2.result c.start_of-3.result = record {
-  axis_is = c.axis.ensures;
-  first_is = c.start_of.ensures;
-  middle_is = c.start_of-2.ensures ∙ ap (start tree-of) middle_is;
-  end_is = c.start_of-3.ensures;
-} in
+      axis_is = c.axis.ensures;
+      first_is = c.start_of.ensures;
+      middle_is = c.start_of-2.ensures ∙ ap (start tree-of) middle_is;
+      end_is = c.start_of-3.ensures;
+    } in
     omega (arith, lies stands reckoned)
 
 pub slice_bounds-halves_ok-start-2 : goal.slice_bounds-halves_ok-start-2
@@ -95,11 +95,11 @@ slice_bounds-halves_ok-start-2 c =
     let stands : Stands c.args.k tree-of (node_of c.args.c) = c.requires.0 in
     let middle_is : c.split-halves.result.far.first.0 ≡ middle (node_of c.args.c) = ap (λ (n : Cursor). n.first) c.split-halves.ensures.far_value in
     let reckoned : Reckoned c.args.k tree-of (node_of c.args.c) c.axis.result c.start_of.result c.start_of-2.result c.start_of-3.result = record {
-  axis_is = c.axis.ensures;
-  first_is = c.start_of.ensures;
-  middle_is = c.start_of-2.ensures ∙ ap (start tree-of) middle_is;
-  end_is = c.start_of-3.ensures;
-} in
+      axis_is = c.axis.ensures;
+      first_is = c.start_of.ensures;
+      middle_is = c.start_of-2.ensures ∙ ap (start tree-of) middle_is;
+      end_is = c.start_of-3.ensures;
+    } in
     omega (arith, lies stands reckoned)
 
 pub slice_bounds-halves_ok-end-2 : goal.slice_bounds-halves_ok-end-2
@@ -108,11 +108,11 @@ slice_bounds-halves_ok-end-2 c =
     let stands : Stands c.args.k tree-of (node_of c.args.c) = c.requires.0 in
     let middle_is : c.split-halves.result.far.first.0 ≡ middle (node_of c.args.c) = ap (λ (n : Cursor). n.first) c.split-halves.ensures.far_value in
     let reckoned : Reckoned c.args.k tree-of (node_of c.args.c) c.axis.result c.start_of.result c.start_of-2.result c.start_of-3.result = record {
-  axis_is = c.axis.ensures;
-  first_is = c.start_of.ensures;
-  middle_is = c.start_of-2.ensures ∙ ap (start tree-of) middle_is;
-  end_is = c.start_of-3.ensures;
-} in
+      axis_is = c.axis.ensures;
+      first_is = c.start_of.ensures;
+      middle_is = c.start_of-2.ensures ∙ ap (start tree-of) middle_is;
+      end_is = c.start_of-3.ensures;
+    } in
     omega (arith, lies stands reckoned)
 
 pub bounds-stems-stem : goal.bounds-stems-stem
@@ -127,9 +127,9 @@ returns c =
     let stands : Stands c.args.k tree-of (node_of c.args.c) = c.requires.0 in
     let middle_is : c.split-halves.result.far.first.0 ≡ middle (node_of c.args.c) = ap (λ (n : Cursor). n.first) c.split-halves.ensures.far_value in
     let reckoned : Reckoned c.args.k tree-of (node_of c.args.c) c.axis.result c.start_of.result c.start_of-2.result c.start_of-3.result = record {
-  axis_is = c.axis.ensures;
-  first_is = c.start_of.ensures;
-  middle_is = c.start_of-2.ensures ∙ ap (start tree-of) middle_is;
-  end_is = c.start_of-3.ensures;
-} in
+      axis_is = c.axis.ensures;
+      first_is = c.start_of.ensures;
+      middle_is = c.start_of-2.ensures ∙ ap (start tree-of) middle_is;
+      end_is = c.start_of-3.ensures;
+    } in
     c.halves_ok.ensures ∙ halves_are stands (reckoned)

@@ -14,6 +14,6 @@ loop-i-preserved c =
     next
 
 pub returns : goal.returns
-returns c =    let a = c.args in
+returns c = let a = c.args in
     let l = c.loop-i in
     all_counted (wrong a.part.now a.pivot) _ l.i l.n (omega arith) l.invariant

@@ -17,15 +17,15 @@ next-at : (starts : List ℕ) (i : ℕ)
 next-at starts i = rw (add-one i) refl
 
 pub returns-then-not-leaf_ok : goal.returns-then-not-leaf_ok
-returns-then-not-leaf_ok c =    let l = c.loop-i in
+returns-then-not-leaf_ok c = let l = c.loop-i in
     let s = c.args.starts.now in
     fails_at (test s) _ l.i c.loop-i-test.true l.invariant.1 ((sym (c.leaf_ok.ensures ∙ next-at s l.i) ∙ c.if-not-leaf_ok.true))
 
 pub loop-i-preserved : goal.loop-i-preserved
-loop-i-preserved c =    let l = c.loop-i in
+loop-i-preserved c = let l = c.loop-i in
     let s = c.args.starts.now in
     (l.invariant.0, passes_at (test s) _ l.i c.loop-i-test.true l.invariant.1 ((sym (c.leaf_ok.ensures ∙ next-at s l.i) ∙ c.if-not-leaf_ok.false)))
 
 pub returns : goal.returns
-returns c =    let l = c.loop-i in
+returns c = let l = c.loop-i in
     all_passed (test c.args.starts.now) _ l.i (omega arith) l.invariant.1
