@@ -15,7 +15,7 @@ use Rattle.written.proofs.Answered.{pairs_mean, counts_mean, nearest_means}
 use Rattle.written.proofs.Checked.{refusal_is_first, first_is_one}
 use Rattle.written.proofs.Laws.Tests.{both, three, at_most, equal}
 use Rattle.reading.specs.Little.{numbers, floats}
-use Rattle.reading.specs.Trees.{leaf_count, point_count, starts_at, stems_at, items_lie, coords_at, tree_end, tree_fits, tree_at}
+use Rattle.reading.specs.Trees.{leaf_count, point_count, starts_at, stems_at, items_at, coords_at, tree_end, tree_fits, tree_at}
 use Rattle.reading.specs.Laws.{ends}
 use Rattle.reading.specs.Header.{mark_ok, version_ok, mode_ok, axes, trees, right_at, size_ok, length_ok, unless, header_refusal, then_length, job_refusal}
 use Rattle.job.specs.Printed.{blank, blank_distances, pair_rooms, near_rooms}
@@ -60,7 +60,7 @@ module _ (s : List ℕ) (at K : ℕ) (small : length s ≤ 16384) (fits : tree_f
   starts_number = length_numbers s (starts_at s at) (suc (leaf_count s at))
 
   items_number : places t ≡ point_count s at
-  items_number = length_numbers s (items_lie s at) (point_count s at)
+  items_number = length_numbers s (items_at s at) (point_count s at)
 
   sizes_kept : sizes_ok K t ≡ true
   sizes_kept =

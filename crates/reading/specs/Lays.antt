@@ -2,7 +2,7 @@
 use Rattle.std.specs.Prelude.{◌≡◌, List, true, false, ℕ, suc, ◌+◌, ◌*◌, ◌≤◌}
 use Rattle.written.specs.LentTree.{Tree, stem_count}
 use Rattle.reading.specs.Little.{numbers, floats}
-use Rattle.reading.specs.Trees.{leaf_count, point_count, starts_at, stems_at, items_lie, coords_at, tree_end, tree_fits}
+use Rattle.reading.specs.Trees.{leaf_count, point_count, starts_at, stems_at, items_at, coords_at, tree_end, tree_fits}
 use Rattle.reading.specs.declared.layout.Layout.{Layout}
 use Rattle.reading.specs.declared.layout.Laid.{Laid}
 use Rattle.reading.specs.declared.layout.Laid.TheVariants.{Tree as Found, Wrong}
@@ -10,7 +10,7 @@ use Rattle.reading.specs.declared.layout.Laid.TheVariants.{Tree as Found, Wrong}
 pub record Lays (K : ℕ) (s : List ℕ) (at : ℕ) (l : Layout) : Type 0 where
   pub starts_lie : l.starts ≡ starts_at s at
   pub stems_lie : l.stems ≡ stems_at s at
-  pub items_lie : l.items ≡ items_lie s at
+  pub items_lie : l.items ≡ items_at s at
   pub coords_lie : l.coords ≡ coords_at s at
   pub end_lies : l.end ≡ tree_end s at K
   pub starts_number : l.nstarts ≡ suc (leaf_count s at)

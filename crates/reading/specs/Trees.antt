@@ -17,11 +17,11 @@ module _ (s : List ℕ) (at : ℕ) where
   abbrev pub stems_at : ℕ
   stems_at = starts_at + 4 * suc leaf_count
 
-  abbrev pub items_lie : ℕ
-  items_lie = stems_at + 8 * stem_count leaf_count
+  abbrev pub items_at : ℕ
+  items_at = stems_at + 8 * stem_count leaf_count
 
   abbrev pub coords_at : ℕ
-  coords_at = items_lie + 4 * point_count
+  coords_at = items_at + 4 * point_count
 
   abbrev pub tree_end : (K : ℕ) → ℕ
   tree_end K = coords_at + 8 * (K * point_count)
@@ -32,4 +32,4 @@ module _ (s : List ℕ) (at : ℕ) where
 
   -- the tree from a place on
   abbrev pub tree_at : (K : ℕ) → Tree
-  tree_at K = record { starts = numbers s starts_at (suc leaf_count); stems = floats s stems_at (stem_count leaf_count); items = numbers s items_lie point_count; coords = floats s coords_at (K * point_count) }
+  tree_at K = record { starts = numbers s starts_at (suc leaf_count); stems = floats s stems_at (stem_count leaf_count); items = numbers s items_at point_count; coords = floats s coords_at (K * point_count) }

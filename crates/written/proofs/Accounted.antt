@@ -12,7 +12,7 @@ use Rattle.written.specs.Visits.{Fate, measured, ruled, whole, Seen, Ends}
 use Rattle.written.specs.NodePairs.{Side, tree_of, NodePair, left_part, right_part, area, all_places}
 use Rattle.written.specs.RadiusWalk.{pair_of, passing, keep, walk}
 use Rattle.written.specs.Nearest.{Neighbour, answer_at, offer, near_walk, no_points, nearest}
-use Rattle.written.specs.Totals.{none, accounted_for, totals_of, walk_totals, near_totals, walk_times, near_times_lem}
+use Rattle.written.specs.Totals.{none, accounted_for, totals_of, walk_totals, near_totals, walk_times, near_times}
 use Rattle.written.specs.Answers.{Accepts}
 use Rattle.written.proofs.Right.{nearest_least}
 use Rattle.written.proofs.Laws.Places.{ind_in}
@@ -67,12 +67,12 @@ module _ (j : Trees) (ok : Accepts j) where
   unfolding near_walk
   near_tiled = (near_carried j trees).tiled
 
-  near_times_lem : (p q : ℕ) → near_times_lem j measured p q + near_times_lem j ruled p q + near_times_lem j whole p q ≡ ind p (all_places j.left) * ind q (all_places j.right)
+  near_times_lem : (p q : ℕ) → near_times j measured p q + near_times j ruled p q + near_times j whole p q ≡ ind p (all_places j.left) * ind q (all_places j.right)
   near_times_lem p q =
       totals_once (λ v. left_part j v.pair) (λ v. right_part j v.pair) p q (near_walk j).0 near_tiled
       ∙ ap₂ (λ (l r : Part). ind p l * ind q r) (near_left j trees) (near_right j trees)
 
-  pub near_each_pair_once : (p q : ℕ) → p < places j.left → q < places j.right → near_times_lem j measured p q + near_times_lem j ruled p q + near_times_lem j whole p q ≡ 1
+  pub near_each_pair_once : (p q : ℕ) → p < places j.left → q < places j.right → near_times j measured p q + near_times j ruled p q + near_times j whole p q ≡ 1
   near_each_pair_once p q h k = near_times_lem p q ∙ here_once (places j.left) (places j.right) p q h k
 
   pub near_totals_add_up : accounted_for (near_totals j) ≡ places j.left * places j.right
@@ -102,7 +102,7 @@ module _ (j : Trees) (ok : Accepts j) where
   ruled_out_was_no_nearer = ends_map offered (near_walk j).0 (near_carried j trees).held
 
   -- so no pair ruled out would have lowered a final distance
-  pub ruled_out_would_not_lower : (p q : ℕ) → 0 < near_times_lem j ruled p q → T (le (answer_at (nearest j) p).distance (distance j p q))
+  pub ruled_out_would_not_lower : (p q : ℕ) → 0 < near_times j ruled p q → T (le (answer_at (nearest j) p).distance (distance j p q))
   ruled_out_would_not_lower p q h =
       let x = under_in (left_part j) (right_part j) p q (all_places j.left) (all_places j.right) (omega (arith, near_times_lem p q)) in
       nearest_least j ok p (omega (arith, x.0)) (omega (arith, x.1)) q (omega (arith, x.1))

@@ -12,8 +12,8 @@ unfoldable pub every : (ℕ → Bool) → ℕ → ℕ → Bool
 every test a zero = true
 every test a (suc n) = test a && every test (suc a) n
 
-abbrev pub every_in_lem : (ℕ → Bool) → Part → Bool
-every_in_lem test w = every test w.from w.size
+abbrev pub every_in : (ℕ → Bool) → Part → Bool
+every_in test w = every test w.from w.size
 
 -- a test of a node and of the nodes below it, down to the last level
 unfoldable pub down : (Cursor → Bool) → ℕ → Cursor → Bool
@@ -64,10 +64,10 @@ module _ (K : ℕ) (t : Tree) where
 
   -- 7: no point of a node's left half is above the pivot, none of its right half below it, and a pivot of +inf has no point in the right half
   abbrev pub left_ok : Cursor → Bool
-  left_ok c = every_in_lem (λ p. not (lt (pivot t c) (coord t (axis K c) p))) (part t (near c))
+  left_ok c = every_in (λ p. not (lt (pivot t c) (coord t (axis K c) p))) (part t (near c))
 
   abbrev pub right_ok : Cursor → Bool
-  right_ok c = every_in_lem (λ p. not (lt (coord t (axis K c) p) (pivot t c))) (part t (far c))
+  right_ok c = every_in (λ p. not (lt (coord t (axis K c) p) (pivot t c))) (part t (far c))
 
   abbrev pub top_ok : Cursor → Bool
   top_ok c = not (is_top (pivot t c)) || eqb (part t (far c)).size 0

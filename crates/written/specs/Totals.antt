@@ -43,8 +43,8 @@ pair_under j p q s = ind p (left_part j s) * ind q (right_part j s)
 abbrev pub walk_times : Trees → Edge → Float → Bool → Fate → ℕ → ℕ → ℕ
 walk_times j edge radius counting k p q = total (pair_under j p q) k (walk j edge radius counting)
 
-abbrev pub near_times_lem : Trees → Fate → ℕ → ℕ → ℕ
-near_times_lem j k p q = total (λ v. pair_under j p q v.pair) k (near_walk j).0
+abbrev pub near_times : Trees → Fate → ℕ → ℕ → ℕ
+near_times j k p q = total (λ v. pair_under j p q v.pair) k (near_walk j).0
 
 -- the most entries that ever waited at once
 unfoldable pub walk_deepest : Trees → Edge → Float → Bool → ℕ

@@ -10,7 +10,7 @@ use Rattle.std.specs.Float.{nan, inf, fin}
 use Rattle.std.specs.Float.Ieee.{lt}
 use Rattle.written.specs.Places.{Part, In}
 use Rattle.written.specs.LentTree.{Tree, coord, levels, stem_count, Cursor, root, span, near, far, Node, the_root, near_of, far_of, axis, pivot, part}
-use Rattle.written.specs.Check.{every, every_in_lem, down, no_pivot, is_top, pivot_ok, left_ok, right_ok, top_ok}
+use Rattle.written.specs.Check.{every, every_in, down, no_pivot, is_top, pivot_ok, left_ok, right_ok, top_ok}
 use Rattle.written.specs.Rules.{OrderKept}
 use Rattle.written.proofs.Laws.Tests.{gave, not_both, not-true, both, three, either, equal, not_zero}
 
@@ -36,7 +36,7 @@ module _ (test : ℕ → Bool) where
   pub every_below : (n : ℕ) → (every test 0 n ≡ true) ↔ ((p : ℕ) → p < n → test p ≡ true)
   every_below n = (λ e p k. every_there 0 n e p (omega arith) (omega arith), λ h. every_back 0 n (λ p i k. h p (omega arith)))
 
-  pub every_in_lem : (w : Part) → (every_in_lem test w ≡ true) ↔ ((p : ℕ) → In p w → test p ≡ true)
+  pub every_in_lem : (w : Part) → (every_in test w ≡ true) ↔ ((p : ℕ) → In p w → test p ≡ true)
   every_in_lem w = (λ e p i. every_there w.from w.size e p i.above i.below, λ h. every_back w.from w.size (λ p i k. h p (record { above = i; below = k })))
 
 -- ---- every node with a level left
