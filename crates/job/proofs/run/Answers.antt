@@ -10,7 +10,7 @@ use Rattle.job.proofs.Deciding.{sized, header_printed, length_printed, joined_pr
 use Rattle.job.proofs.run.Goals as goal
 
 pub returns-then-number-ne0 : goal.returns-then-number-ne0
-returns-then-number-ne0 c =    let r = c.refused.ensures in
+returns-then-number-ne0 c = let r = c.refused.ensures in
     let h = c.header_refusal-number.ensures in
     finished _ r.puts (ap (λ (n : ℕ). refused_line n 0) h ∙ header_printed _ (λ e. c.if-number-ne0.true (h ∙ e))) (omega (arith, r.upper_bound))
 
@@ -65,7 +65,7 @@ returns-then-r-s c =
     let a = accepted in
     let k = c.byte_at-k.ensures.0 in
     let r = c.refused-then-r-s.ensures in
-    finished _ r.puts (length_printed _ a (another_end job k left right c.if-r-s.true)) (omega (arith, r.upper_bound))
+    finished _ r.puts (length_printed _ a (another_end job k left right (λ e. omega (arith, e, c.if-r-s.true)))) (omega (arith, r.upper_bound))
 
 pub joined-requires : goal.joined-requires
 joined-requires c =
