@@ -2,6 +2,7 @@
 """Respells this repository's own definitions and lemmas as today's Rattle spells names: words in snake case.
 
 Run once, at the top of the repository, after port.py: python3 tools/respell.py
+Not twice: some new names are old names of other things (every_in, near_times, items_at).
 tools/respelled.txt has a line for each name: the old one and the new one. A name is turned where it stands as a
 whole, in proofs, definitions, clauses and must-fail edits; in the pages only between back quotes. Text in string
 literals stays. A name that ends in _lem was told from its function's only by a dash.

@@ -3,9 +3,9 @@
 
 ghost use Rattle.std.specs.Prelude.{◌≡◌, ◌&&◌, cond, ◌-◌, ◌^◌, length, leb};
 ghost use Rattle.std.specs.Float.{nan, binary64};
-ghost use Rattle.rounding.specs.Distance.{distance as distanceOfRows};
-ghost use Rattle.written.specs.Boxes.{lower as lowerBound, upper as upperBound, passes, beyond as beyondRadius};
-ghost use Rattle.written.specs.Check.{refusal as refusalOf};
+ghost use Rattle.rounding.specs.Distance.{distance as distance_of_rows};
+ghost use Rattle.written.specs.Boxes.{lower as lower_bound, upper as upper_bound, passes, beyond as beyond_radius};
+ghost use Rattle.written.specs.Check.{refusal as refusal_of};
 ghost use Rattle.metric.specs.Edges.{edge_of};
 ghost use Rattle.metric.specs.Flat.{boxes_of};
 ghost use Rattle.metric.specs.Lent.{point_at};
@@ -29,7 +29,7 @@ pub extern "C" fn oul_accepts(distance: f64, radius: f64, under: bool) -> bool
 
 #[unsafe(no_mangle)]
 pub extern "C" fn oul_beyond(bound: f64, radius: f64, under: bool) -> bool
-    ensures { result ≡ beyondRadius (edge_of under) radius bound }
+    ensures { result ≡ beyond_radius (edge_of under) radius bound }
 {
     metric::beyond(bound, radius, under)
 }
@@ -37,7 +37,7 @@ pub extern "C" fn oul_beyond(bound: f64, radius: f64, under: bool) -> bool
 // NaN where there are more than four axes.
 #[unsafe(no_mangle)]
 pub extern "C" fn oul_lower<'a>(min: &'a [f64; 8], max: &'a [f64; 8], k: u32) -> f64
-    ensures { result ≡ cond (leb k 4) (lowerBound k (boxes_of min.now max.now)) nan }
+    ensures { result ≡ cond (leb k 4) (lower_bound k (boxes_of min.now max.now)) nan }
 {
     if 4 < k {
         return 0.0 / 0.0;
@@ -47,7 +47,7 @@ pub extern "C" fn oul_lower<'a>(min: &'a [f64; 8], max: &'a [f64; 8], k: u32) ->
 
 #[unsafe(no_mangle)]
 pub extern "C" fn oul_upper<'a>(min: &'a [f64; 8], max: &'a [f64; 8], k: u32) -> f64
-    ensures { result ≡ cond (leb k 4) (upperBound k (boxes_of min.now max.now)) nan }
+    ensures { result ≡ cond (leb k 4) (upper_bound k (boxes_of min.now max.now)) nan }
 {
     if 4 < k {
         return 0.0 / 0.0;
@@ -66,7 +66,7 @@ pub extern "C" fn oul_distance(
     rn: usize,
     q: usize,
 ) -> f64
-    ensures { result ≡ cond (place_ok k lcoords.now ln p && place_ok k rcoords.now rn q) (distanceOfRows binary64 (point_at lcoords.now ln p) (point_at rcoords.now rn q) k) nan }
+    ensures { result ≡ cond (place_ok k lcoords.now ln p && place_ok k rcoords.now rn q) (distance_of_rows binary64 (point_at lcoords.now ln p) (point_at rcoords.now rn q) k) nan }
 {
     if !place_ok(k, lcoords, ln, p) {
         return 0.0 / 0.0;
@@ -86,7 +86,7 @@ pub extern "C" fn oul_check(
     items: &[u32],
     coords: &[f64],
 ) -> u32
-    ensures { result ≡ refusalOf k (tree_of starts.now stems.now items.now coords.now) }
+    ensures { result ≡ refusal_of k (tree_of starts.now stems.now items.now coords.now) }
 {
     tree::refusal(k, starts, stems, items, coords)
 }

@@ -2,7 +2,7 @@
 #![tactic(auto)]
 
 ghost use Rattle.std.specs.Prelude.{◌≡◌, ◌+◌, ◌-◌, ◌*◌, ◌≤◌, ◌<◌, min, length, take, drop, get_or};
-ghost use Rattle.written.specs.LentTree.{levels as levelsOver, is_leaf, span as span_of, axis as axisOf, near as nearOf, far as farOf};
+ghost use Rattle.written.specs.LentTree.{levels as levels_over, is_leaf, span as span_of, axis as axis_of, near as near_child, far as far_child};
 ghost use Rattle.written.specs.NodePairs.{on_side};
 ghost use Rattle.cursor.specs.Held.{node_of, root_over, Splits, side_of, Column};
 
@@ -32,7 +32,7 @@ pub struct Halves {
 // The levels over m leaves: the exponent of the next power of two from m.
 pub fn levels(m: u32) -> u32
     requires { m ≤ 4096 }
-    ensures { result ≡ levelsOver m }
+    ensures { result ≡ levels_over m }
 {
     let mut r = 0u32;
     let mut power = 1u32;
@@ -81,7 +81,7 @@ impl Cursor {
 
     pub fn axis(self, k: u32) -> u32
         requires { 0 < k }
-        ensures { result ≡ axisOf k (node_of self) }
+        ensures { result ≡ axis_of k (node_of self) }
     {
         self.level % k
     }
@@ -89,8 +89,8 @@ impl Cursor {
     // Both children: the left one takes 2^(remaining - 1) leaves, or what there is.
     pub fn split(self) -> Halves
         requires { Splits (node_of self) }
-        ensures near_value { node_of result.near ≡ nearOf (node_of self) }
-        ensures far_value { node_of result.far ≡ farOf (node_of self) }
+        ensures near_value { node_of result.near ≡ near_child (node_of self) }
+        ensures far_value { node_of result.far ≡ far_child (node_of self) }
     {
         let remaining = self.remaining - 1;
         let half = 1u32 << remaining;

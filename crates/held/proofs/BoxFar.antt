@@ -5,7 +5,7 @@ use Prim.Native.Nat.{ℕ, ◌<◌}
 use lib.Dec.{T}
 use lib.Ieee.{Float, Format, binary64, le, lt}
 use lib.Ieee.Scale.{finite}
-use Rattle.rounding.specs.Distance.{Row, dist1, distance as distanceOfRows}
+use Rattle.rounding.specs.Distance.{Row, dist1, distance as distance_of_rows}
 use Rattle.rounding.proofs.Order.{known, finite_known, le_known_l, le_known_r, le_refl, le_total, le_trans, not_lt→le, finite_between}
 use Rattle.rounding.proofs.Signs.{plain}
 use Rattle.rounding.proofs.Squares.{dist1_plain, dist1_mono, dist1_sym}
@@ -69,8 +69,8 @@ module _ (f : Format) (x y : Float) (p : T (finite x)) (q : T (finite y)) where
 
 -- ---- all axes
 
-clamped_rows : (f : Format) (min max x y : Row) (K : ℕ) → Finite x K → Finite y K → Within min y max K → T (le (distanceOfRows f x (λ d. clamped (min d) (max d) (x d)) K) (distanceOfRows f x y K))
-unfolding distanceOfRows
+clamped_rows : (f : Format) (min max x y : Row) (K : ℕ) → Finite x K → Finite y K → Within min y max K → T (le (distance_of_rows f x (λ d. clamped (min d) (max d) (x d)) K) (distance_of_rows f x y K))
+unfolding distance_of_rows
 clamped_rows f min max x y K p q w =
     summed_mono f (λ d. dist1 f (x d) (clamped (min d) (max d) (x d))) (λ d. dist1 f (x d) (y d)) K (λ d h. (one d h).0) (λ d h. dist1_plain f (x d) (y d) (p d h) (q d h)) (λ d h. (one d h).1)
   where

@@ -2,7 +2,7 @@
 use Rattle.std.specs.Prelude.{List, Bool, false, ◌||◌, ℕ, zero, suc, ◌+◌, ◌*◌, ◌≤◌, ◌≡◌, length, get_or, T, Float}
 use Rattle.std.specs.Float.{binary64, nan}
 use Rattle.std.specs.Float.Ieee.{le, lt}
-use Rattle.rounding.specs.Distance.{Row, distance as distanceOfRows}
+use Rattle.rounding.specs.Distance.{Row, distance as distance_of_rows}
 use Rattle.written.specs.Places.{In}
 use Rattle.written.specs.Boxes.{Trees, Boxes, point, distance, lowered_to, raised_to, sides}
 use Rattle.written.specs.NodePairs.{NodePair, left_part, right_part}
@@ -18,8 +18,8 @@ in_right_box b x d = clamped (sides b.mins 4 d) (sides b.maxs 4 d) (x d)
 
 -- the rounded squared distance to it
 unfoldable pub apart : ℕ → Boxes → Row → Float
-unfolding distanceOfRows
-apart K b x = distanceOfRows binary64 x (in_right_box b x) K
+unfolding distance_of_rows
+apart K b x = distance_of_rows binary64 x (in_right_box b x) K
 
 -- no right place under the node pair is nearer to a left one than the right box is
 abbrev pub BoxNoFarther : Trees → NodePair → Type 0

@@ -1,6 +1,6 @@
 // What a call answers: the refusal's number and side (0 and 0 when nothing is refused), the number found, and the totals.
 ghost use Rattle.std.specs.Prelude.{◌≡◌};
-ghost use Rattle.written.specs.Answers.{answered as answeredBy, refused as refusedAs};
+ghost use Rattle.written.specs.Answers.{answered as answered_by, refused as refused_as};
 ghost use Rattle.steps.specs.Counted.{totals_held};
 ghost use Rattle.join.specs.Told.{answer_of};
 
@@ -19,7 +19,7 @@ pub struct Answer {
 
 // Refused: nothing is found, and all totals are 0.
 pub fn refused(number: u32, side: u32) -> Answer
-    ensures { answer_of result ≡ refusedAs number side }
+    ensures { answer_of result ≡ refused_as number side }
 {
     Answer {
         number,
@@ -34,7 +34,7 @@ pub fn refused(number: u32, side: u32) -> Answer
 
 // Answered, with what the walk counted.
 pub fn answered(number: u32, t: Tally) -> Answer
-    ensures { answer_of result ≡ answeredBy number t.found (totals_held t) }
+    ensures { answer_of result ≡ answered_by number t.found (totals_held t) }
 {
     Answer {
         number,

@@ -2,14 +2,14 @@
 #![tactic(auto)]
 
 ghost use Rattle.std.specs.Prelude.{◌≡◌, cond};
-ghost use Rattle.written.specs.Boxes.{passes as passesRadius};
+ghost use Rattle.written.specs.Boxes.{passes as passes_radius};
 ghost use Rattle.metric.specs.Edges.{edge_of};
 
 pub mod axes;
 
 // 1 where the distance passes, else 0: a number, so that the loops have no branch.
 pub fn passes(distance: f64, radius: f64, under: bool) -> u64
-    ensures { result ≡ cond (passesRadius (edge_of under) radius distance) 1 0 }
+    ensures { result ≡ cond (passes_radius (edge_of under) radius distance) 1 0 }
 {
     if metric::accepts(distance, radius, under) {
         1

@@ -3,10 +3,10 @@
 
 ghost use Rattle.std.specs.Prelude.{◌≡◌, ◌≤◌};
 ghost use Rattle.std.specs.Float.{binary64};
-ghost use Rattle.std.specs.Float.Ieee.Scale.{finite as finiteNumber};
-ghost use Rattle.rounding.specs.Distance.{dist1, distance as distanceOfRows};
-ghost use Rattle.rounding.specs.Bounds.{gap1, reach1, bounded as boundedSides};
-ghost use Rattle.written.specs.Boxes.{everywhere as everywhereBoxes, lowered_to, raised_to, lower as lowerBound, upper as upperBound, passes, beyond as beyondRadius};
+ghost use Rattle.std.specs.Float.Ieee.Scale.{finite as finite_number};
+ghost use Rattle.rounding.specs.Distance.{dist1, distance as distance_of_rows};
+ghost use Rattle.rounding.specs.Bounds.{gap1, reach1, bounded as bounded_sides};
+ghost use Rattle.written.specs.Boxes.{everywhere as everywhere_boxes, lowered_to, raised_to, lower as lower_bound, upper as upper_bound, passes, beyond as beyond_radius};
 ghost use Rattle.written.specs.Check.{is_top};
 ghost use Rattle.metric.specs.Edges.{edge_of};
 ghost use Rattle.metric.specs.Flat.{boxes_of};
@@ -31,7 +31,7 @@ pub fn distance(
     q: usize,
 ) -> f64
     requires { HoldsPlace k lcoords.now ln p × HoldsPlace k rcoords.now rn q }
-    ensures { result ≡ distanceOfRows binary64 (point_at lcoords.now ln p) (point_at rcoords.now rn q) k }
+    ensures { result ≡ distance_of_rows binary64 (point_at lcoords.now ln p) (point_at rcoords.now rn q) k }
 {
     let mut sum = 0.0;
     let mut d = 0;
@@ -46,7 +46,7 @@ pub fn distance(
 
 // Neither NaN nor infinite: not NaN, and the exponent's field is not all ones.
 pub fn finite(x: f64) -> bool
-    ensures { result ≡ finiteNumber x }
+    ensures { result ≡ finite_number x }
 {
     if x != x {
         return false;
@@ -72,7 +72,7 @@ pub struct Boxes {
 impl Boxes {
     // -inf and +inf on each axis of each side.
     pub fn everywhere() -> Self
-        ensures { boxes_of result.min result.max ≡ everywhereBoxes }
+        ensures { boxes_of result.min result.max ≡ everywhere_boxes }
     {
         let min = [-1.0 / 0.0; 8];
         let max = [1.0 / 0.0; 8];
@@ -109,7 +109,7 @@ fn gap(lmin: f64, lmax: f64, rmin: f64, rmax: f64) -> f64
 // The box lower bound: no two points of the boxes are nearer.
 pub fn lower<'a>(min: &'a [f64; 8], max: &'a [f64; 8], k: usize) -> f64
     requires { k ≤ 4 }
-    ensures { result ≡ lowerBound k (boxes_of min.now max.now) }
+    ensures { result ≡ lower_bound k (boxes_of min.now max.now) }
 {
     let mut sum = 0.0;
     let mut d = 0;
@@ -131,7 +131,7 @@ fn reach(lmin: f64, lmax: f64, rmin: f64, rmax: f64) -> f64
 }
 
 fn bounded(lmin: f64, lmax: f64, rmin: f64, rmax: f64) -> bool
-    ensures { result ≡ boundedSides lmin lmax rmin rmax }
+    ensures { result ≡ bounded_sides lmin lmax rmin rmax }
 {
     if !finite(lmin) {
         return false;
@@ -148,7 +148,7 @@ fn bounded(lmin: f64, lmax: f64, rmin: f64, rmax: f64) -> bool
 // The upper bound: no two points of the boxes are farther; +inf unless all sides are finite.
 pub fn upper<'a>(min: &'a [f64; 8], max: &'a [f64; 8], k: usize) -> f64
     requires { k ≤ 4 }
-    ensures { result ≡ upperBound k (boxes_of min.now max.now) }
+    ensures { result ≡ upper_bound k (boxes_of min.now max.now) }
 {
     let mut sum = 0.0;
     let mut d = 0;
@@ -180,7 +180,7 @@ pub fn accepts(distance: f64, radius: f64, under: bool) -> bool
 
 // A bound rules a node pair out. NaN rules nothing out.
 pub fn beyond(bound: f64, radius: f64, under: bool) -> bool
-    ensures { result ≡ beyondRadius (edge_of under) radius bound }
+    ensures { result ≡ beyond_radius (edge_of under) radius bound }
 {
     if under {
         bound >= radius

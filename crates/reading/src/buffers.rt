@@ -1,6 +1,6 @@
 // The buffers of a tree, from its bytes.
 ghost use Rattle.std.specs.Prelude.{◌≡◌, ◌+◌, ◌*◌, ◌≤◌, length, take};
-ghost use Rattle.reading.specs.Little.{numbers as numbersIn, floats as floatsIn};
+ghost use Rattle.reading.specs.Little.{numbers as numbers_in, floats as floats_in};
 ghost use Rattle.reading.specs.Lays.{Within};
 ghost use Rattle.reading.specs.Held.{Roomy, Holds};
 
@@ -10,7 +10,7 @@ use crate::little::{f64_at, u32_at};
 // n numbers from a place on.
 fn numbers(s: &[u8], at: usize, n: usize, out: &mut [u32])
     requires { (at + 4 * n ≤ length s.now) × (n ≤ length out.old) }
-    ensures { take n out.new ≡ numbersIn s.now at n }
+    ensures { take n out.new ≡ numbers_in s.now at n }
 {
     let mut i = 0;
     while i < n {
@@ -22,7 +22,7 @@ fn numbers(s: &[u8], at: usize, n: usize, out: &mut [u32])
 // n floats from a place on.
 fn floats(s: &[u8], at: usize, n: usize, out: &mut [f64])
     requires { (at + 8 * n ≤ length s.now) × (n ≤ length out.old) }
-    ensures { take n out.new ≡ floatsIn s.now at n }
+    ensures { take n out.new ≡ floats_in s.now at n }
 {
     let mut i = 0;
     while i < n {

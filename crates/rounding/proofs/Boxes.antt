@@ -57,21 +57,21 @@ apart f x a b y p q h k l =
     let v = finite_between x b y p q (le_trans x a b h m) l in
     (dist1_plain f a b u v, dist1_mono f x a b y p u v q h m l)
 
-module _ (f : Format) (minL maxL minR maxR x y : Float) (p : T (finite x)) (q : T (finite y)) (a : T (le minL x)) (b : T (le x maxL)) (c : T (le minR y)) (d : T (le y maxR)) where
-  gap1_le : T (plain (gap1 f minL maxL minR maxR)) × T (le (gap1 f minL maxL minR maxR) (dist1 f x y))
+module _ (f : Format) (min_l max_l min_r max_r x y : Float) (p : T (finite x)) (q : T (finite y)) (a : T (le min_l x)) (b : T (le x max_l)) (c : T (le min_r y)) (d : T (le y max_r)) where
+  gap1_le : T (plain (gap1 f min_l max_l min_r max_r)) × T (le (gap1 f min_l max_l min_r max_r) (dist1 f x y))
   unfolding gap1
-  gap1_le = first (lt maxL minR) (λ (h : T (lt maxL minR)). h)
+  gap1_le = first (lt max_l min_r) (λ (h : T (lt max_l min_r)). h)
     where
       Goal : Float → Type 0
       Goal z = T (plain z) × T (le z (dist1 f x y))
 
-      second : (t : Bool) → (T t → T (lt maxR minL)) → Goal (cond t (dist1 f maxR minL) zero₊)
+      second : (t : Bool) → (T t → T (lt max_r min_l)) → Goal (cond t (dist1 f max_r min_l) zero₊)
       second false h = (tt, zero-le (dist1 f x y) (dist1_plain f x y p q))
-      second true h = rw (dist1_sym f x y) (apart f y maxR minL x q p d (h tt) a)
+      second true h = rw (dist1_sym f x y) (apart f y max_r min_l x q p d (h tt) a)
 
-      first : (t : Bool) → (T t → T (lt maxL minR)) → Goal (cond t (dist1 f maxL minR) (cond (lt maxR minL) (dist1 f maxR minL) zero₊))
-      first false h = second (lt maxR minL) (λ (h : T (lt maxR minL)). h)
-      first true h = apart f x maxL minR y p q b (h tt) c
+      first : (t : Bool) → (T t → T (lt max_l min_r)) → Goal (cond t (dist1 f max_l min_r) (cond (lt max_r min_l) (dist1 f max_r min_l) zero₊))
+      first false h = second (lt max_r min_l) (λ (h : T (lt max_r min_l)). h)
+      first true h = apart f x max_l min_r y p q b (h tt) c
 
 -- ---- one axis of the upper bound
 -- the larger of two values
@@ -82,18 +82,18 @@ larger a b p q = go (lt b a) (λ (h : T (lt b a)). h) (not_lt→le b a (plain_kn
     go true h k = (p, le_refl a (plain_known a p), lt→le b a (h tt))
     go false h k = (q, k tt, le_refl b (plain_known b q))
 
-module _ (f : Format) (minL maxL minR maxR x y : Float) (p : T (finite x)) (q : T (finite y)) (a : T (le minL x)) (b : T (le x maxL)) (c : T (le minR y)) (d : T (le y maxR)) where
-  le_reach1 : T (bounded minL maxL minR maxR) → T (plain (reach1 f minL maxL minR maxR)) × T (le (dist1 f x y) (reach1 f minL maxL minR maxR))
+module _ (f : Format) (min_l max_l min_r max_r x y : Float) (p : T (finite x)) (q : T (finite y)) (a : T (le min_l x)) (b : T (le x max_l)) (c : T (le min_r y)) (d : T (le y max_r)) where
+  le_reach1 : T (bounded min_l max_l min_r max_r) → T (plain (reach1 f min_l max_l min_r max_r)) × T (le (dist1 f x y) (reach1 f min_l max_l min_r max_r))
   unfolding reach1
   le_reach1 sides =
-      let s = four (finite minL) (finite maxL) (finite minR) (finite maxR) sides in
-      let u = dist1 f minL maxR in
-      let v = dist1 f maxL minR in
-      let l = larger u v (dist1_plain f minL maxR s.0 s.3) (dist1_plain f maxL minR s.1 s.2) in (
+      let s = four (finite min_l) (finite max_l) (finite min_r) (finite max_r) sides in
+      let u = dist1 f min_l max_r in
+      let v = dist1 f max_l min_r in
+      let l = larger u v (dist1_plain f min_l max_r s.0 s.3) (dist1_plain f max_l min_r s.1 s.2) in (
         l.0,
         elim (le_total x y (finite_known x p) (finite_known y q)) [
-          | inl h ↦ le_trans (dist1 f x y) u (cond (lt v u) u v) (dist1_mono f minL x y maxR s.0 p q s.3 a h d) l.1
-          | inr h ↦ le_trans (dist1 f x y) v (cond (lt v u) u v) (rw (dist1_sym f x y, dist1_sym f maxL minR) (dist1_mono f minR y x maxL s.2 q p s.1 c h b)) l.2
+          | inl h ↦ le_trans (dist1 f x y) u (cond (lt v u) u v) (dist1_mono f min_l x y max_r s.0 p q s.3 a h d) l.1
+          | inr h ↦ le_trans (dist1 f x y) v (cond (lt v u) u v) (rw (dist1_sym f x y, dist1_sym f max_l min_r) (dist1_mono f min_r y x max_l s.2 q p s.1 c h b)) l.2
         ],
       )
 
@@ -105,15 +105,15 @@ every_axis_at t (suc k) h d l = elim (eq-or-lt_of_le (le_of_suc-le-suc l)) [
   | inr g ↦ every_axis_at t k (and_l (every_axis t k) (t k) h) d g
 ]
 
-module _ (f : Format) (minL maxL minR maxR x y : Row) (K : ℕ) (p : Finite x K) (q : Finite y K) (l : Within minL x maxL K) (r : Within minR y maxR K) where
+module _ (f : Format) (min_l max_l min_r max_r x y : Row) (K : ℕ) (p : Finite x K) (q : Finite y K) (l : Within min_l x max_l K) (r : Within min_r y max_r K) where
   abbrev gap : ℕ → Float
-  gap d = gap1 f (minL d) (maxL d) (minR d) (maxR d)
+  gap d = gap1 f (min_l d) (max_l d) (min_r d) (max_r d)
 
   abbrev reach : ℕ → Float
-  reach d = reach1 f (minL d) (maxL d) (minR d) (maxR d)
+  reach d = reach1 f (min_l d) (max_l d) (min_r d) (max_r d)
 
   abbrev sides : ℕ → Bool
-  sides d = bounded (minL d) (maxL d) (minR d) (maxR d)
+  sides d = bounded (min_l d) (max_l d) (min_r d) (max_r d)
 
   abbrev part : ℕ → Float
   part d = dist1 f (x d) (y d)
@@ -122,20 +122,20 @@ module _ (f : Format) (minL maxL minR maxR x y : Row) (K : ℕ) (p : Finite x K)
   part_plain d h = dist1_plain f (x d) (y d) (p d h) (q d h)
 
   -- the lower bound is never above the distance
-  pub lower_le : T (le (lower f minL maxL minR maxR K) (distance f x y K))
+  pub lower_le : T (le (lower f min_l max_l min_r max_r K) (distance f x y K))
   unfolding lower distance
   lower_le = summed_mono f gap part K (λ (d : ℕ) (h : d < K). (one d h).0) part_plain (λ (d : ℕ) (h : d < K). (one d h).1)
     where
       one : (d : ℕ) → d < K → T (plain (gap d)) × T (le (gap d) (part d))
-      one d h = gap1_le f (minL d) (maxL d) (minR d) (maxR d) (x d) (y d) (p d h) (q d h) (l d h).0 (l d h).1 (r d h).0 (r d h).1
+      one d h = gap1_le f (min_l d) (max_l d) (min_r d) (max_r d) (x d) (y d) (p d h) (q d h) (l d h).0 (l d h).1 (r d h).0 (r d h).1
 
   -- nor the distance above the upper bound
-  pub le_upper : T (le (distance f x y K) (upper f minL maxL minR maxR K))
+  pub le_upper : T (le (distance f x y K) (upper f min_l max_l min_r max_r K))
   unfolding upper distance
   le_upper = go (every_axis sides K) (every_axis_at sides K)
     where
       one : (d : ℕ) → d < K → T (sides d) → T (plain (reach d)) × T (le (part d) (reach d))
-      one d h = le_reach1 f (minL d) (maxL d) (minR d) (maxR d) (x d) (y d) (p d h) (q d h) (l d h).0 (l d h).1 (r d h).0 (r d h).1
+      one d h = le_reach1 f (min_l d) (max_l d) (min_r d) (max_r d) (x d) (y d) (p d h) (q d h) (l d h).0 (l d h).1 (r d h).0 (r d h).1
 
       go : (e : Bool) → (T e → (d : ℕ) → d < K → T (sides d)) → T (le (summed f part K) (cond e (summed f reach K) (inf false)))
       go false e = le_top (summed f part K) (plain_known (summed f part K) (summed_plain f part K part_plain))

@@ -3,7 +3,7 @@
 
 ghost use Rattle.std.specs.Prelude.{◌≡◌, [], ◌≤◌};
 ghost use Rattle.written.specs.LentTree.{stem_count};
-ghost use Rattle.written.specs.Check.{axes_ok, sizes_ok, lengths_ok, coords_ok, refusal as refusalOf};
+ghost use Rattle.written.specs.Check.{axes_ok, sizes_ok, lengths_ok, coords_ok, refusal as refusal_of};
 ghost use Rattle.tree.specs.Lent.{tree_of, Sized};
 
 use cursor::Cursor;
@@ -73,7 +73,7 @@ fn coords_ok(coords: &[f64]) -> bool
 
 // The number of the first rule that the tree breaks, 0 if it breaks none.
 pub fn refusal(k: u32, starts: &[u32], stems: &[f64], items: &[u32], coords: &[f64]) -> u32
-    ensures { result ≡ refusalOf k (tree_of starts.now stems.now items.now coords.now) }
+    ensures { result ≡ refusal_of k (tree_of starts.now stems.now items.now coords.now) }
 {
     if !axes_ok(k) {
         return 1;

@@ -23,9 +23,9 @@ refused number side = record { number = number; side = side; found = 0; totals =
 
 -- the left tree wholly, then the right, then what the call goes on with
 abbrev pub checked : {X : Type 0} → (ℕ → ℕ → X) → (left right : ℕ) → X → X
-checked refuse zero zero goesOn = goesOn
-checked refuse zero (suc n) goesOn = refuse (suc n) 1
-checked refuse (suc n) right goesOn = refuse (suc n) 0
+checked refuse zero zero goes_on = goes_on
+checked refuse zero (suc n) goes_on = refuse (suc n) 1
+checked refuse (suc n) right goes_on = refuse (suc n) 0
 
 abbrev pub left_refusal : Trees → ℕ
 left_refusal j = refusal j.axes j.left

@@ -3,8 +3,8 @@
 use Rattle.std.specs.Prelude.{List, Bool, true, false, cond, ℕ, ◌+◌, get_or, set, replicate, Float}
 use Rattle.std.specs.Float.{nan, inf, binary64}
 use Rattle.std.specs.Float.Ieee.{le, lt}
-use Rattle.rounding.specs.Distance.{Row, distance as distanceOfRows}
-use Rattle.rounding.specs.Bounds.{lower as lowerOfRows, upper as upperOfRows}
+use Rattle.rounding.specs.Distance.{Row, distance as distance_of_rows}
+use Rattle.rounding.specs.Bounds.{lower as lower_of_rows, upper as upper_of_rows}
 use Rattle.written.specs.LentTree.{Tree, coord}
 
 -- the two trees of a join, over K axes
@@ -19,8 +19,8 @@ point t p d = coord t d p
 
 -- the squared distance of a left and a right place: squared differences, summed from 0 in axis order
 unfoldable pub distance : Trees → ℕ → ℕ → Float
-unfolding distanceOfRows
-distance j p q = distanceOfRows binary64 (point j.left p) (point j.right q) j.axes
+unfolding distance_of_rows
+distance j p q = distance_of_rows binary64 (point j.left p) (point j.right q) j.axes
 
 -- ---- boxes
 
@@ -53,12 +53,12 @@ sides l i d = get_or l (i + d) nan
 
 -- the box lower bound and the upper bound over K axes
 unfoldable pub lower : ℕ → Boxes → Float
-unfolding lowerOfRows
-lower K b = lowerOfRows binary64 (sides b.mins 0) (sides b.maxs 0) (sides b.mins 4) (sides b.maxs 4) K
+unfolding lower_of_rows
+lower K b = lower_of_rows binary64 (sides b.mins 0) (sides b.maxs 0) (sides b.mins 4) (sides b.maxs 4) K
 
 unfoldable pub upper : ℕ → Boxes → Float
-unfolding upperOfRows
-upper K b = upperOfRows binary64 (sides b.mins 0) (sides b.maxs 0) (sides b.mins 4) (sides b.maxs 4) K
+unfolding upper_of_rows
+upper K b = upper_of_rows binary64 (sides b.mins 0) (sides b.maxs 0) (sides b.mins 4) (sides b.maxs 4) K
 
 -- ---- the edge rule
 

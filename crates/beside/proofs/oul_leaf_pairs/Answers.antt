@@ -6,6 +6,6 @@ use Rattle.std.proofs.Common.{sym, ◌∙◌}
 use Rattle.beside.proofs.oul_leaf_pairs.Goals as goal
 
 pub leaf_pairs-requires : goal.leaf_pairs-requires
-leaf_pairs-requires c =    let a = c.args in
+leaf_pairs-requires c = let a = c.args in
     let pair = pair_held ((sym c.pair_ok.ensures ∙ c.if-not-pair_ok.false)) in
     record { leaf_pair = pair; same_rooms = alike_held ((sym c.alike.ensures ∙ c.if-not-alike.false)); countable = omega (arith, leaf_fits a.radius a.under pair) }

@@ -9,7 +9,7 @@ use Rattle.std.proofs.Common.{◌∙◌}
 use Rattle.beside.proofs.oul_update_leaf.Goals as goal
 
 pub returns : goal.returns
-returns c =    let a = c.args in
+returns c = let a = c.args in
     let fits = (sym c.alike.ensures ∙ c.if-not-alike.false) in
     let h : (a.lend - a.ls ≡ length a.items.now) × (a.lend - a.ls ≡ length a.dists.now) = alike_held fits in
     rw ((sym c.pair_ok.ensures ∙ c.if-not-pair_ok.false), fits) (laid_out (omega (arith, h, c.update_leaf.auto)) c.update_leaf.ensures)

@@ -14,7 +14,7 @@ use Rattle.leaf.proofs.Tiled.{leaf_next, leaf_done}
 use Rattle.leafcounts.proofs.leaf_counts.Goals as goal
 
 pub loop-la-init : goal.loop-la-init
-loop-la-init c =    (le_refl _, c.requires.left.rising, c.requires, zero-add _, leaf_fits c.args.radius c.args.under c.requires)
+loop-la-init c = (le_refl _, c.requires.left.rising, c.requires, zero-add _, leaf_fits c.args.radius c.args.under c.requires)
 
 pub tile_leaf_counts-n-requires : goal.tile_leaf_counts-n-requires
 tile_leaf_counts-n-requires c =

@@ -12,7 +12,7 @@ use Rattle.leaf.proofs.Tiled.{point_next}
 use Rattle.leafcounts.proofs.tile_counts.Goals as goal
 
 pub loop-p-init : goal.loop-p-init
-loop-p-init c =    (le_refl _, c.requires.tile_pair.pair.left.rising, c.requires.tile_pair, fresh_row c.args.k, zero-add _, omega (arith, c.requires.countable))
+loop-p-init c = (le_refl _, c.requires.tile_pair.pair.left.rising, c.requires.tile_pair, fresh_row c.args.k, zero-add _, omega (arith, c.requires.countable))
 
 pub loop-p-preserved : goal.loop-p-preserved
 loop-p-preserved c =

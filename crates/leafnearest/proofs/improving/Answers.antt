@@ -12,11 +12,11 @@ unfolding hits
 loop-i-init c = (omega arith, c.requires.0, c.requires.1, refl)
 
 pub overflow_add-n : goal.overflow_add-n
-overflow_add-n c =    let w = c.loop-i in
+overflow_add-n c = let w = c.loop-i in
     let a = c.args in
     let test = closer (reached a.sums.now a.q a.column.now) a.dists.now in
     omega (arith, hits_few test (w.i + 1), hits_next test w.i w.invariant.3 (rw c.square.ensures at c.nearer-n.ensures))
 
 pub loop-i-preserved : goal.loop-i-preserved
-loop-i-preserved c =    let w = c.loop-i in
+loop-i-preserved c = let w = c.loop-i in
     (omega arith, w.invariant.1, w.invariant.2, hits_next _ w.i w.invariant.3 (rw c.square.ensures at c.nearer-n.ensures))

@@ -39,7 +39,7 @@ loop-la-preserved c =
     (omega (arith, e, u.invariant.0), omega (arith, e, u.invariant.1), u.invariant.2, next_left u.invariant.3 here after first (omega (arith, call.auto)) (omega (arith, call.auto)) (omega (arith, call.auto)) call.ensures)
 
 pub returns : goal.returns
-returns c =    let a = c.args in
+returns c = let a = c.args in
     let u = c.loop-la in
     let f = keeps a.k a.radius a.under a.litems.now a.lcoords.now a.ritems.now a.rcoords.now in
     none_left u.invariant.3 (leaf_done f u.la a.lend a.rs a.rend c.loop-la-test.false)

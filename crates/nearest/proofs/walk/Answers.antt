@@ -23,12 +23,12 @@ use Rattle.nearest.proofs.Turning.{held_begun, tally_examined, leaves_here, held
 use Rattle.nearest.proofs.walk.Goals as goal
 
 pub roots-at-requires : goal.roots-at-requires
-roots-at-requires c =    let l = keeps _ c.requires.accepts left_side rule₂ in
+roots-at-requires c = let l = keeps _ c.requires.accepts left_side rule₂ in
     let r = keeps _ c.requires.accepts right_side rule₂ in
     (l.0, l.1, r.0, r.1)
 
 pub loop-here-init : goal.loop-here-init
-loop-here-init c =    let a = c.args in
+loop-here-init c = let a = c.args in
     let j : Trees = trees_of a.k a.lstarts.now a.lstems.now a.litems.now a.lcoords.now a.rstarts.now a.rstems.now a.ritems.now a.rcoords.now in
     let held = held_begun j c.none-t.result a.items.now a.dists.now c.none-t.ensures c.requires.answering.1 in
     (c.requires.accepts, c.requires.answering.0, c.requires.answering.0, start (nearest_walk j) c.requires.accepts _ _ refl c.roots-at.ensures.0 c.roots-at.ensures.1 c.everywhere-b.ensures (begins j c.requires.rcoords_value held))
@@ -37,40 +37,40 @@ pub visited-t-requires : goal.visited-t-requires
 visited-t-requires c = let i = c.loop-here.invariant in omega (arith, unvisited_yet _ i.0 (at_hand c.if-here.true i.3))
 
 pub choose-m-requires : goal.choose-m-requires
-choose-m-requires c =    let l = c.loop-here in
+choose-m-requires c = let l = c.loop-here in
     let i = l.invariant in
     let g = at_hand c.if-here.true i.3 in
     ((keeps _ i.0 left_side rule₁).1, ordered_both _ i.0 _ (good_here i.0 g).node, held_here _ i.0 l.items l.dists i.2 g)
 
 pub finish-t-requires : goal.finish-t-requires
-finish-t-requires c =    let l = c.loop-here in
+finish-t-requires c = let l = c.loop-here in
     let i = l.invariant in
     let g = at_hand c.if-here.true i.3 in
     record { leaves = leaves_here _ i.0 l.items l.dists i.2 g; answering = i.2; few_pairs = few_examined _ i.0 g _ _ refl c.visited-t.ensures; box_no_farther = box_here _ i.0 l.items l.dists i.2 g }
 
 pub loop-here-smaller-in-End : goal.loop-here-smaller-in-End
-loop-here-smaller-in-End c =    let i = c.loop-here.invariant in
+loop-here-smaller-in-End c = let i = c.loop-here.invariant in
     let g = at_hand c.if-here.true i.3 in
     simp c.if-here.true (omega (arith, unvisited_yet _ i.0 g, ap (λ (w : Held). w.totals.visits) c.finish-t.ensures, ap (λ (t : Totals). t.visits) c.visited-t.ensures.1))
 
 pub loop-here-preserved-in-End : goal.loop-here-preserved-in-End
-loop-here-preserved-in-End c =    let l = c.loop-here in
+loop-here-preserved-in-End c = let l = c.loop-here in
     let i = l.invariant in
     let g = at_hand c.if-here.true i.3 in
     (i.0, i.1, (c.items-1.given ∙ i.2.0, c.dists-1.given ∙ i.2.1), turn_finish _ i.0 l.items l.dists i.2 g _ c.in-End.is c.choose-m.ensures (tally_examined _ _ l.items l.dists c.visited-t.ensures) c.finish-t.ensures)
 
 pub descend-d-requires : goal.descend-d-requires
-descend-d-requires c =    let l = c.loop-here in
+descend-d-requires c = let l = c.loop-here in
     let i = l.invariant in
     let g = at_hand c.if-here.true i.3 in
     splits_here i.0 g (splits_with _ i.0 l.items l.dists i.2 g c.in-Split.is c.choose-m.ensures)
 
 pub loop-here-smaller-then-is_top : goal.loop-here-smaller-then-is_top
-loop-here-smaller-then-is_top c =    let i = c.loop-here.invariant in
+loop-here-smaller-then-is_top c = let i = c.loop-here.invariant in
     simp c.if-here.true (omega (arith, unvisited_yet _ i.0 (at_hand c.if-here.true i.3), ap (λ (t : Totals). t.visits) c.visited-t.ensures.1))
 
 pub loop-here-preserved-then-is_top : goal.loop-here-preserved-then-is_top
-loop-here-preserved-then-is_top c =    let l = c.loop-here in
+loop-here-preserved-then-is_top c = let l = c.loop-here in
     let i = l.invariant in
     let g = at_hand c.if-here.true i.3 in
     (i.0, i.1, i.2, turn_to_near i.0 g _ (splits_with _ i.0 l.items l.dists i.2 g c.in-Split.is c.choose-m.ensures) _ c.descend-d.ensures (tally_examined _ _ l.items l.dists c.visited-t.ensures) c.if-here.true (sym c.is_top.ensures ∙ c.if-is_top.true))
@@ -150,11 +150,11 @@ bounds-b-i-else-is_top-2 c =
     small_slot
 
 pub loop-here-smaller-else-is_top : goal.loop-here-smaller-else-is_top
-loop-here-smaller-else-is_top c =    let i = c.loop-here.invariant in
+loop-here-smaller-else-is_top c = let i = c.loop-here.invariant in
     simp c.if-here.true (omega (arith, unvisited_yet _ i.0 (at_hand c.if-here.true i.3), ap (λ (t : Totals). t.visits) c.visited-t.ensures.1))
 
 pub loop-here-preserved-else-is_top : goal.loop-here-preserved-else-is_top
-loop-here-preserved-else-is_top c =    let l = c.loop-here in
+loop-here-preserved-else-is_top c = let l = c.loop-here in
     let i = l.invariant in
     let g = at_hand c.if-here.true i.3 in
     (i.0, i.1, i.2, turn_to_both i.0 g _ (splits_with _ i.0 l.items l.dists i.2 g c.in-Split.is c.choose-m.ensures) _ c.descend-d.ensures (tally_examined _ _ l.items l.dists c.visited-t.ensures) c.if-here.true c.slot-i.ensures (put_raised (boxes_of l.b.min l.b.max) c.slot-i.result _ c.raised.ensures) (sym c.is_top.ensures ∙ c.if-is_top.false))

@@ -8,7 +8,7 @@ use Rattle.rooms.proofs.Filled.{none_stored, stored_next, stored_all}
 use Rattle.rooms.proofs.emit.Goals as goal
 
 pub loop-i-init : goal.loop-i-init
-loop-i-init c =    let a = c.args in
+loop-i-init c = let a = c.args in
     (c.requires.emits, c.requires.same_rooms, refl, zero-le, c.fitting-fit.ensures, none_stored a.found a.lout.now a.rout.now a.dout.now)
 
 pub bounds-dists-j : goal.bounds-dists-j
@@ -19,7 +19,7 @@ bounds-dists-j c =
     omega (arith, inside, c.loop-i.invariant)
 
 pub loop-i-preserved : goal.loop-i-preserved
-loop-i-preserved c =    let store = c.store in
+loop-i-preserved c = let store = c.store in
     let u = c.loop-i in
     let a = c.args in (
       u.invariant.0,
@@ -31,7 +31,7 @@ loop-i-preserved c =    let store = c.store in
     )
 
 pub returns : goal.returns
-returns c =    let u = c.loop-i in
+returns c = let u = c.loop-i in
     let a = c.args in
     let fit = c.fitting-fit.result in
     let e : u.i ≡ fit = omega (arith, c.loop-i-test.false, u.invariant.3) in

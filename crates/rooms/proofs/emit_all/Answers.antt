@@ -9,11 +9,11 @@ use Rattle.rooms.proofs.Filled.{none_stored, stored_next, stored_all}
 use Rattle.rooms.proofs.emit_all.Goals as goal
 
 pub loop-j-init : goal.loop-j-init
-loop-j-init c =    let a = c.args in
+loop-j-init c = let a = c.args in
     (c.requires.emits, c.requires.same_rooms, refl, zero-le, c.fitting-fit.ensures, none_stored a.found a.lout.now a.rout.now a.dout.now)
 
 pub loop-j-preserved : goal.loop-j-preserved
-loop-j-preserved c =    let store = c.store in
+loop-j-preserved c = let store = c.store in
     let u = c.loop-j in
     let a = c.args in
     let n = length a.ritems.now in (
@@ -26,7 +26,7 @@ loop-j-preserved c =    let store = c.store in
     )
 
 pub returns : goal.returns
-returns c =    let u = c.loop-j in
+returns c = let u = c.loop-j in
     let a = c.args in
     let n = length a.ritems.now in
     let fit = c.fitting-fit.result in

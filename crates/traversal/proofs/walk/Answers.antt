@@ -25,38 +25,38 @@ use Rattle.std.proofs.Common.{sym, ◌∙◌}
 use Rattle.traversal.proofs.walk.Goals as goal
 
 pub roots-at-requires : goal.roots-at-requires
-roots-at-requires c =    let l = keeps _ c.requires.accepts left_side rule₂ in
+roots-at-requires c = let l = keeps _ c.requires.accepts left_side rule₂ in
     let r = keeps _ c.requires.accepts right_side rule₂ in
     (l.0, l.1, r.0, r.1)
 
 pub loop-here-init : goal.loop-here-init
-loop-here-init c =    (c.requires.accepts, c.requires.same_rooms, record { same_lefts = refl; same_rights = refl; same_distances = refl }, start _ c.requires.accepts _ _ refl c.roots-at.ensures.0 c.roots-at.ensures.1 c.everywhere-b.ensures (begins _ _ _ _ (tally_none _ _ c.none-t.ensures)))
+loop-here-init c = (c.requires.accepts, c.requires.same_rooms, record { same_lefts = refl; same_rights = refl; same_distances = refl }, start _ c.requires.accepts _ _ refl c.roots-at.ensures.0 c.roots-at.ensures.1 c.everywhere-b.ensures (begins _ _ _ _ (tally_none _ _ c.none-t.ensures)))
 
 pub visited-t-requires : goal.visited-t-requires
 visited-t-requires c = let i = c.loop-here.invariant in omega (arith, unvisited _ _ _ _ _ i.0 (at_hand c.if-here.true i.3))
 
 pub choose-m-requires : goal.choose-m-requires
-choose-m-requires c =    let i = c.loop-here.invariant in
+choose-m-requires c = let i = c.loop-here.invariant in
     ((keeps _ i.0 left_side rule₁).1, ordered_both _ i.0 _ (good_here i.0 (at_hand c.if-here.true i.3)).node)
 
 pub finish-t-requires : goal.finish-t-requires
-finish-t-requires c =    let i = c.loop-here.invariant in
+finish-t-requires c = let i = c.loop-here.invariant in
     let g = at_hand c.if-here.true i.3 in
     record { leaves = leaves_read _ i.0 _ (good_here i.0 g).node; few = few_examined _ _ _ _ _ i.0 g _ _ refl refl c.visited-t.ensures; same_rooms = alike_rooms i.1 i.2; may_end = (ends_with _ _ _ _ _ i.0 g c.in-End.is c.choose-m.ensures).allowed }
 
 pub loop-here-smaller-in-End : goal.loop-here-smaller-in-End
-loop-here-smaller-in-End c =    let i = c.loop-here.invariant in
+loop-here-smaller-in-End c = let i = c.loop-here.invariant in
     let g = at_hand c.if-here.true i.3 in
     simp c.if-here.true (omega (arith, unvisited _ _ _ _ _ i.0 g, ap (λ (w : Work). w.totals.visits) c.finish-t.ensures, ap (λ (t : Totals). t.visits) c.visited-t.ensures.1))
 
 pub loop-here-preserved-in-End : goal.loop-here-preserved-in-End
-loop-here-preserved-in-End c =    let i = c.loop-here.invariant in
+loop-here-preserved-in-End c = let i = c.loop-here.invariant in
     let g = at_hand c.if-here.true i.3 in
     let r = turn_finish _ _ _ _ _ i.0 g _ c.in-End.is c.choose-m.ensures (tally_examined _ _ _ _ _ c.visited-t.ensures) c.finish-t.ensures i.2 in
     (i.0, i.1, r.0, r.1)
 
 pub descend-d-requires : goal.descend-d-requires
-descend-d-requires c =    let i = c.loop-here.invariant in
+descend-d-requires c = let i = c.loop-here.invariant in
     let g = at_hand c.if-here.true i.3 in
     splits_here i.0 g (splits_with _ _ _ _ _ i.0 g c.in-Split.is c.choose-m.ensures)
 
@@ -128,20 +128,20 @@ bounds-b-i-then-not-is_top-2 c =
     small_slot
 
 pub loop-here-smaller-then-not-is_top : goal.loop-here-smaller-then-not-is_top
-loop-here-smaller-then-not-is_top c =    let i = c.loop-here.invariant in
+loop-here-smaller-then-not-is_top c = let i = c.loop-here.invariant in
     simp c.if-here.true (omega (arith, unvisited _ _ _ _ _ i.0 (at_hand c.if-here.true i.3), ap (λ (t : Totals). t.visits) c.visited-t.ensures.1))
 
 pub loop-here-preserved-then-not-is_top : goal.loop-here-preserved-then-not-is_top
-loop-here-preserved-then-not-is_top c =    let i = c.loop-here.invariant in
+loop-here-preserved-then-not-is_top c = let i = c.loop-here.invariant in
     let g = at_hand c.if-here.true i.3 in
     (i.0, i.1, i.2, turn_to_both i.0 g _ (splits_with _ _ _ _ _ i.0 g c.in-Split.is c.choose-m.ensures) _ c.descend-d.ensures (tally_examined _ _ _ _ _ c.visited-t.ensures) c.if-here.true c.slot-i.ensures (put_lowered (boxes_of c.loop-here.b.min c.loop-here.b.max) c.slot-i.result _ c.lowered.ensures) ((sym c.is_top.ensures ∙ c.if-not-is_top.true)))
 
 pub loop-here-smaller-else-not-is_top : goal.loop-here-smaller-else-not-is_top
-loop-here-smaller-else-not-is_top c =    let i = c.loop-here.invariant in
+loop-here-smaller-else-not-is_top c = let i = c.loop-here.invariant in
     simp c.if-here.true (omega (arith, unvisited _ _ _ _ _ i.0 (at_hand c.if-here.true i.3), ap (λ (t : Totals). t.visits) c.visited-t.ensures.1))
 
 pub loop-here-preserved-else-not-is_top : goal.loop-here-preserved-else-not-is_top
-loop-here-preserved-else-not-is_top c =    let i = c.loop-here.invariant in
+loop-here-preserved-else-not-is_top c = let i = c.loop-here.invariant in
     let g = at_hand c.if-here.true i.3 in
     (i.0, i.1, i.2, turn_to_near i.0 g _ (splits_with _ _ _ _ _ i.0 g c.in-Split.is c.choose-m.ensures) _ c.descend-d.ensures (tally_examined _ _ _ _ _ c.visited-t.ensures) c.if-here.true ((sym c.is_top.ensures ∙ c.if-not-is_top.false)))
 

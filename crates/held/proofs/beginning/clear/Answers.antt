@@ -24,11 +24,11 @@ unfolding div of_bits
 loop-i-init c = (refl, c.requires, c.requires, omega arith, refl, refl)
 
 pub loop-i-preserved : goal.loop-i-preserved
-loop-i-preserved c =    let w = c.loop-i in
+loop-i-preserved c = let w = c.loop-i in
     (simp length-set w.invariant.0, simp length-set w.invariant.1, w.invariant.2, omega arith, w.invariant.4, rw w.invariant.4 (unset-next w.items w.dists w.i (omega arith) (omega arith) w.invariant.5))
 
 pub returns : goal.returns
-returns c =    let w = c.loop-i in
+returns c = let w = c.loop-i in
     let a = c.args in
     let all : w.i ≡ length a.items.now = omega arith in
     sym (take_all w.i (answers w.items w.dists) (omega (arith, length_answers w.items w.dists (omega arith)))) ∙ w.invariant.5 ∙ ap (λ (n : ℕ). replicate n unset) all

@@ -17,7 +17,7 @@ loop-d-init c = (zero-le, refl)
 
 pub loop-d-preserved : goal.loop-d-preserved
 unfolding apart
-loop-d-preserved c =    let w = c.loop-d in
+loop-d-preserved c = let w = c.loop-d in
     let a = c.args in
     let x : Float = point_at a.lcoords.now a.ln a.p w.d in
     let side : c.lowered-side.result ≡ in_right_box (boxes_of a.min.now a.max.now) (point_at a.lcoords.now a.ln a.p) w.d =

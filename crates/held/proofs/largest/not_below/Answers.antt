@@ -7,14 +7,14 @@ use Rattle.held.proofs.NoneAbove.{none_above, below_is, not_below_is, one_above,
 use Rattle.held.proofs.largest.not_below.Goals as goal
 
 pub returns-then-bound-dists : goal.returns-then-bound-dists
-returns-then-bound-dists c =    let w = c.loop-i in
+returns-then-bound-dists c = let w = c.loop-i in
     let a = c.args in
     let above : none_above a.bound a.dists.now ≡ false = sym w.invariant ∙ one_above a.bound a.dists.now w.i (omega arith) c.if-bound-dists.true in
     sym (below_is a.bound a.dists.now above)
 
 pub returns : goal.returns
 unfolding of_bits
-returns c =    let w = c.loop-i in
+returns c = let w = c.loop-i in
     let a = c.args in
     let none : none_above a.bound a.dists.now ≡ true = sym w.invariant ∙ none_left a.bound a.dists.now w.i (omega arith) in
     sym (not_below_is a.bound a.dists.now none)

@@ -5,7 +5,7 @@ use Rattle.job.proofs.Telling.{nearest_few, nearest_told}
 use Rattle.job.proofs.modes.nearest_text.Goals as goal
 
 pub told-requires : goal.told-requires
-told-requires c =    let few = nearest_few _ _ _ _ c.nearest-a.ensures c.shown-n.ensures in
+told-requires c = let few = nearest_few _ _ _ _ c.nearest-a.ensures c.shown-n.ensures in
     record {
       short = omega arith;
       few = few.0;
@@ -15,5 +15,5 @@ told-requires c =    let few = nearest_few _ _ _ _ c.nearest-a.ensures c.shown-n
     }
 
 pub returns : goal.returns
-returns c =    let t = c.told.ensures in
+returns c = let t = c.told.ensures in
     record { put = puts_as (nearest_told _ _ _ _ c.nearest-a.ensures c.shown-n.ensures) t.put; bounded = t.bounded }

@@ -5,7 +5,7 @@ use Rattle.job.proofs.Telling.{pairs_few, pairs_told}
 use Rattle.job.proofs.modes.pairs_text.Goals as goal
 
 pub told-requires : goal.told-requires
-told-requires c =    let few = pairs_few _ _ _ _ _ _ _ c.pairs-a.ensures c.shown-n.ensures in
+told-requires c = let few = pairs_few _ _ _ _ _ _ _ c.pairs-a.ensures c.shown-n.ensures in
     record {
       short = omega arith;
       few = few;
@@ -15,5 +15,5 @@ told-requires c =    let few = pairs_few _ _ _ _ _ _ _ c.pairs-a.ensures c.shown
     }
 
 pub returns : goal.returns
-returns c =    let t = c.told.ensures in
+returns c = let t = c.told.ensures in
     record { put = puts_as (pairs_told _ _ _ _ _ _ _ c.pairs-a.ensures c.shown-n.ensures) t.put; bounded = t.bounded }

@@ -6,7 +6,7 @@ use Rattle.job.proofs.Texts.{text_answered, puts_as}
 use Rattle.job.proofs.told.told.Goals as goal
 
 pub returns : goal.returns
-returns c =    let h = c.head-body.ensures in
+returns c = let h = c.head-body.ensures in
     let l = c.lines-end.ensures in
     let t = c.totals.ensures in
     record {

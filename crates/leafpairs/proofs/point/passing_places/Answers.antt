@@ -24,7 +24,7 @@ pub overflow_add-n : goal.overflow_add-n
 overflow_add-n c = omega (arith, next_few _ c.loop-j.j c.loop-j.invariant.4 c.passes.ensures)
 
 pub loop-j-preserved : goal.loop-j-preserved
-loop-j-preserved c =    let u = c.loop-j in
+loop-j-preserved c = let u = c.loop-j in
     let a = c.args in
     let test = passing (edge_of a.under) a.radius (row a.dists.now) in (
       u.invariant.0,

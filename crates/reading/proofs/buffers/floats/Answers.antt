@@ -13,7 +13,7 @@ loop-i-init c = (omega arith, refl, refl)
 
 pub loop-i-preserved : goal.loop-i-preserved
 unfolding floats
-loop-i-preserved c =    let s = c.args.s.now in
+loop-i-preserved c = let s = c.args.s.now in
     let at = c.args.at in
     let out = c.loop-i.out in
     let i = c.loop-i.i in

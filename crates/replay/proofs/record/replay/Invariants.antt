@@ -1,0 +1,10 @@
+-- The place only grows, within the input. Assumes nothing.
+use Prim.Native.Nat.{◌-◌, ◌≤◌}
+use lib.ListN.{length}
+use Rattle.replay.proofs.record.replay.Given as goal
+
+abbrev pub invariant-loop-at : goal.invariant-loop-at
+invariant-loop-at l = l.at ≤ length l.s
+
+abbrev pub decreases-loop-at : goal.decreases-loop-at
+decreases-loop-at l = length l.s - l.at
