@@ -65,7 +65,7 @@ returns-then-r-s c =
     let a = accepted in
     let k = c.byte_at-k.ensures.0 in
     let r = c.refused-then-r-s.ensures in
-    finished _ r.puts (length_printed _ a (another_end job k left right c.if-r-s.true)) (omega (arith, r.upper_bound))
+    finished _ r.puts (length_printed _ a (another_end job k left right (λ e. omega (arith, e, c.if-r-s.true)))) (omega (arith, r.upper_bound))
 
 pub joined-requires : goal.joined-requires
 joined-requires c =

@@ -1,6 +1,8 @@
 -- A pattern whose magnitude is at most the infinity's is no NaN's; any other is read as NaN, which is what 0.0 / 0.0 gives. Assumes nothing.
 use mathlib.Core.Path.{◌≡◌, refl, sym, subst, ◌∙◌}
 use mathlib.Core.Bool.{Bool, true, not, false≢true}
+use Prim.Native.Nat.{◌%◌, ◌≤◌, ◌<◌}
+use native.Mathlib.Omega.{arith}
 use borrow.Author.Tests.{le-ltb, lt-ltb}
 use lib.Dec.{T}
 use lib.Ieee.{Float, nan, inf, fin, is_nan, of_bits, binary64, div}
@@ -18,12 +20,11 @@ unfolding div of_bits
 no_number = refl
 
 pub float_from_bits-result : goal.float_from_bits-result
-float_from_bits-result c = subst (λ (b : Bool). T (not b)) (sym (nan_bits_above binary64 c.args.bits ∙ le-ltb _ _ c.if-magnitude-le9218868437227405312.true)) tt
+float_from_bits-result c =
+    let low : c.args.bits % 0x8000000000000000 ≤ 0x7ff0000000000000 = omega arith in
+    subst (λ (b : Bool). T (not b)) (sym (nan_bits_above binary64 c.args.bits ∙ le-ltb _ _ low)) tt
 
 pub returns : goal.returns
-returns c = no_number
-    ∙ is-nan
-    _
-    (sym (nan_bits_is binary64 c.args.bits)
-    ∙ nan_bits_above binary64 c.args.bits
-    ∙ lt-ltb _ _ c.if-magnitude-le9218868437227405312.false)
+returns c =
+    let high : 0x7ff0000000000000 < c.args.bits % 0x8000000000000000 = omega arith in
+    no_number ∙ is-nan _ (sym (nan_bits_is binary64 c.args.bits) ∙ nan_bits_above binary64 c.args.bits ∙ lt-ltb _ _ high)
