@@ -128,12 +128,12 @@ fn root(kiddo: &Path) -> String {
 }
 
 fn link(package: &Path) {
-    let folder = folder(package, "OULAVISOK_LIB", "../target/staticlib");
+    let folder = folder(package, "OULAVISOK_LIB", "../crates/beside/out");
     let library = folder.join("libbeside.a");
     println!("cargo:rerun-if-changed={}", library.display());
     assert!(
         library.exists(),
-        "no {}: run `rt staticlib beside` at the root, or set OULAVISOK_LIB",
+        "no {}: run `rt lib` in crates/beside, or set OULAVISOK_LIB",
         library.display()
     );
     println!("cargo:rustc-link-search=native={}", folder.display());

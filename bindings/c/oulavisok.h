@@ -3,7 +3,7 @@
  * the nearest right point of each left one. A radius is a squared distance;
  * oul_radius_of makes one of a length. Distances are squared too.
  *
- * Link with liboulavisok.a (`rt staticlib oulavisok` writes it, for x86-64).
+ * Link with liboulavisok.a (`rt lib` in crates/oulavisok writes it, for x86-64-v2).
  * The library allocates nothing, keeps nothing between calls and may be called
  * from several threads at once.
  *

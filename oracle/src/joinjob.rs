@@ -8,7 +8,7 @@ use std::thread::sleep;
 use std::time::Duration;
 
 pub fn path() -> PathBuf {
-    let default = concat!(env!("CARGO_MANIFEST_DIR"), "/../target/bin/joinjob");
+    let default = concat!(env!("CARGO_MANIFEST_DIR"), "/../crates/joinjob/out/joinjob");
     env::var_os("OULAVISOK_JOINJOB").map_or_else(|| default.into(), PathBuf::from)
 }
 
@@ -17,7 +17,7 @@ pub fn is_there() -> bool {
     let (path, there) = (path(), path().is_file());
     if !there {
         let path = path.display();
-        eprintln!("no {path}: run `rt check joinjob` at the root, or set OULAVISOK_JOINJOB");
+        eprintln!("no {path}: run `rt run` in crates/joinjob, or set OULAVISOK_JOINJOB");
     }
     there
 }

@@ -1,7 +1,7 @@
 //! Which spacings are exact: the figures of docs/SPACINGS.md, by the proved
 //! library.
 //!
-//!     rt staticlib oulavisok              # at the root
+//!     (cd crates/oulavisok && rt lib)     # at the root
 //!     cd spacings && cargo run --release
 //!
 //! A stand of 256 x 256 stems is joined with itself, up to its own spacing, and

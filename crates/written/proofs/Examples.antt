@@ -1,1 +1,1 @@
--- All that is shown by computation. Every law names this file, directly or through others, so that a changed definition is refused at an example before a proof. Assumes nothing.
+-- All that is shown by computation stands in `Stands`, `Rows` and `Refusals`: their tables are the first to refuse a changed definition. Assumes nothing.

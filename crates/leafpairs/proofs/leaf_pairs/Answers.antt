@@ -1,5 +1,4 @@
 -- What the left tiles from la on keep is left to store. Assumes nothing.
--- ---- the tile that ends here, and what is left after it
 use mathlib.Core.Path.{◌≡◌, sym, subst}
 use mathlib.Core.List.{List, ◌++◌}
 use Prim.Native.Nat.{ℕ, ◌+◌, ◌-◌, min}

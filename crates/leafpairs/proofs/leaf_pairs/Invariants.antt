@@ -1,5 +1,4 @@
 -- What the left tiles from la on keep is left to store. Assumes nothing.
--- ---- the tile that ends here, and what is left after it
 use Prim.Native.Nat.{◌-◌, ◌≤◌}
 use Rattle.leaf.specs.Kept.{keeps, of_leaves}
 use Rattle.leaf.specs.Lent.{LeafPair}

@@ -1,5 +1,4 @@
 -- What the right tiles from ra on keep is left to store. Assumes nothing.
--- ---- the tile that ends here, and what is left after it
 use Prim.Native.Nat.{◌-◌, ◌≤◌}
 use Rattle.leaf.specs.Kept.{keeps, of_tile_leaf}
 use Rattle.leaf.specs.Lent.{LeafPair}

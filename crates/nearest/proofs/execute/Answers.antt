@@ -1,6 +1,4 @@
 -- The cases of the call: a tree without points; else the first places of both rooms are cleared and the walk goes over them. Assumes nothing.
--- ---- a tree holds no points
--- ---- both hold points
 use Prim.Native.Nat.{◌≤◌}
 use lib.ListN.{length}
 use Rattle.written.specs.Boxes.{Trees}

@@ -1,5 +1,4 @@
 -- `walk` meets its contract: the loop's invariant is the radius walk's, `Going`, of the nearest walk, with both trees accepted and an answer for each left place. Assumes nothing.
--- ---- the way up from each place to where its turn began: all that a change of the code moves
 use mathlib.Core.Bool.{Bool, true, false}
 use Prim.Native.Nat.{ℕ, ◌+◌, ◌*◌, ◌-◌}
 use lib.ListN.{length}

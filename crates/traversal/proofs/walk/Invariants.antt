@@ -1,5 +1,4 @@
 -- `walk` meets its contract: the loop's invariant is `Going`, with both trees accepted and the rooms as long as they were. Assumes nothing.
--- ---- the way up from each place to where its turn began: all that a change of the code moves
 use mathlib.Core.Bool.{Bool, true, false}
 use Prim.Native.Nat.{ℕ, ◌+◌, ◌*◌, ◌-◌}
 use Rattle.written.specs.Boxes.{Trees}

@@ -1,6 +1,4 @@
 -- The row of distances is that of the definition; then none of the places pass, or all, or those found. Assumes nothing.
--- ---- the ways up, and what holds once the last axis is added
--- ---- the three ways out: a list of the places that pass
 use mathlib.Core.Path.{◌≡◌, refl, sym, ap, ◌∙◌}
 use mathlib.Core.List.{List, []}
 use Prim.Native.Nat.{ℕ, ◌+◌, ◌-◌, ◌*◌}

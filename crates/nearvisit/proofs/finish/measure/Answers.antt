@@ -1,6 +1,4 @@
 -- The places of both leaves are read; where none can gain the answers stay, else the left leaf's stretch of the answers comes back improved, and nothing else changed. Assumes nothing.
--- ---- what was read
--- ---- the needs
 use mathlib.Core.Path.{refl, sym, ◌∙◌}
 use mathlib.Core.List.{[]}
 use Rattle.written.specs.Boxes.{Trees, Boxes}

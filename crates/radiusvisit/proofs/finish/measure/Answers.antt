@@ -1,6 +1,4 @@
 -- The places of both leaves are read, and all pairs of them counted as measured; the loop found what the leaf pair has. Assumes nothing.
--- ---- what was read
--- ---- the needs
 use mathlib.Core.List.{List, []}
 use Prim.Native.Nat.{◌^◌, ◌≤◌}
 use native.Mathlib.Omega.{arith}
