@@ -7,7 +7,7 @@ use crate::show::show;
 use reading::u32_at;
 use std::io;
 
-#[derive(Drop)]
+#[derive(Clone, Copy)]
 pub enum End {
     At(usize),
     Cut,

@@ -4,7 +4,7 @@ ghost use Rattle.joinjob.specs.Read.{Read};
 
 use std::io;
 
-#[derive(Drop)]
+#[derive(Clone, Copy)]
 pub enum Input {
     Bytes(usize),
     Failed,

@@ -14,13 +14,13 @@ pub returns-then-not-rooms_agree : goal.returns-then-not-rooms_agree
 returns-then-not-rooms_agree c =
     let trees : Trees = trees_of c.args.k c.args.lstarts.now c.args.lstems.now c.args.litems.now c.args.lcoords.now c.args.rstarts.now c.args.rstems.now c.args.ritems.now c.args.rcoords.now in
     let rooms : PairRooms = rooms_of c.args.lout.now c.args.rout.now c.args.dout.now in
-    let accepted : Accepts (trees) = accepts trees c.refusal-left.ensures c.if-left-ne0.false c.refusal-right.ensures c.if-right-ne0.false in
+    let accepted : Accepts (trees) = accepts trees c.refusal-left.ensures (omega arith) c.refusal-right.ensures (omega arith) in
     rooms_refused trees (edge_of c.args.under) c.args.radius rooms c.refused-then-not-rooms_agree.ensures accepted ((sym c.rooms_agree.ensures ∙ c.if-not-rooms_agree.true))
 
 pub returns : goal.returns
 returns c =
     let trees : Trees = trees_of c.args.k c.args.lstarts.now c.args.lstems.now c.args.litems.now c.args.lcoords.now c.args.rstarts.now c.args.rstems.now c.args.ritems.now c.args.rcoords.now in
     let rooms : PairRooms = rooms_of c.args.lout.now c.args.rout.now c.args.dout.now in
-    let accepted : Accepts (trees) = accepts trees c.refusal-left.ensures c.if-left-ne0.false c.refusal-right.ensures c.if-right-ne0.false in
+    let accepted : Accepts (trees) = accepts trees c.refusal-left.ensures (omega arith) c.refusal-right.ensures (omega arith) in
     let agreed : pair_rooms_agree rooms ≡ true = (sym c.rooms_agree.ensures ∙ c.if-not-rooms_agree.false) in
     pairs_told trees (edge_of c.args.under) c.args.radius rooms c.answered.ensures accepted agreed c.room_number.ensures (omega arith) c.walk-t.ensures
