@@ -1,5 +1,6 @@
 -- Every finite value as a signed fraction over a denominator that the values at hand share: then the order, the differences and the sums are linear arithmetic on natural numbers.
 -- Assumes nothing.
+use Rattle.rounding.proofs.Vectors  -- no law is checked before the numbers
 use Rattle.std.specs.Prelude.{◌≡◌, refl, ◌⊎◌, ℕ, ◌+◌, ◌*◌, ◌≤◌, ◌<◌, Bool, true, false, not, ◌&&◌, ◌||◌, T, eqb, Float}
 use Rattle.std.proofs.Common.{sym, ap, ◌∙◌, inl, inr, le_of_eq, le_of_lt, eq-or-lt_of_le, add-mul, zero-mul, mul_comm, mul_assoc, mul_left_comm, mul_right_comm, mul-pos, mul-le-mul_right, le_of_mul-le-mul_right, mul-lt-mul_of_pos_right, lt_of_mul-lt-mul_right, arith, eqb→eq, ltb→lt, lt→ltb}
 use Rattle.std.specs.Bool.{beq}

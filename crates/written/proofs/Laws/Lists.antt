@@ -1,4 +1,5 @@
 -- Rearrangements of lists. A rearrangement is the library's `List.Permᴰ`: swaps of neighbours lead from one list to the other. Assumes nothing.
+use Rattle.written.proofs.Examples  -- no law is checked before the examples
 use Rattle.std.specs.Prelude.{◌≡◌, refl, length, suc}
 use Rattle.std.proofs.Common.{sym, ap, ◌∙◌, subst}
 use mathlib.Core.List.{List, [], ◌∷◌, ◌++◌, append-nil, append_assoc, Permᴰ}

@@ -1,4 +1,5 @@
 -- Answers of nearest, improved by what right places offer; the largest distance held; a change at each place of a list. Assumes nothing.
+use Rattle.written.proofs.Examples  -- no law is checked before the examples
 use Rattle.std.specs.Prelude.{◌≡◌, refl, List, [], ◌∷◌, Bool, true, false, cond, ◌⊎◌, ℕ, zero, suc, ◌+◌, ◌≤◌, ◌<◌, length, replicate, T, Float}
 use Rattle.std.proofs.Common.{ap, ◌∙◌, inl, inr, add-zero, add-suc, suc-add, not-suc-le-zero, arith}
 use Rattle.std.proofs.Math.Decide.{ℕ_discrete}

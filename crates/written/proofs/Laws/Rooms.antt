@@ -1,4 +1,5 @@
 -- What is stored in a room: one after the other, and by whether all fits. Assumes nothing.
+use Rattle.written.proofs.Examples  -- no law is checked before the examples
 use Rattle.std.specs.Prelude.{◌≡◌, List, [], ◌∷◌, ◌++◌, map, ℕ, zero, suc, ◌≤◌, take, drop, set}
 use Rattle.std.proofs.Math.Path.{refl}
 use Rattle.std.proofs.Common.{ap, ◌∙◌, append-nil, arith, drop_of_length-le, take_all}

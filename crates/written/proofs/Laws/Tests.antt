@@ -1,4 +1,5 @@
 -- What a test that passed or failed says. Assumes nothing.
+use Rattle.written.proofs.Examples  -- no law is checked before the examples
 use Rattle.std.specs.Prelude.{◌≡◌, refl, Bool, true, false, not, ◌&&◌, ◌||◌, ◌⊎◌, ◌↔◌, ℕ, zero, suc, ◌≤◌, ◌<◌, T, leb, eqb}
 use Rattle.std.proofs.Common.{sym, ◌∙◌, subst, true≢false, inl, inr, arith, leb→le, le→leb, eqb→eq}
 use Rattle.std.proofs.Math.Dec.{eqb_refl}
