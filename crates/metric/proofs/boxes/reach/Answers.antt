@@ -4,7 +4,7 @@ use mathlib.Core.Bool.{cond}
 use lib.Ieee.{Float, lt, binary64}
 use Rattle.rounding.specs.Distance.{dist1}
 use Rattle.rounding.specs.Bounds.{reach1}
-use Rattle.metric.proofs.reach.Goals as goal
+use Rattle.metric.proofs.boxes.reach.Goals as goal
 
 reach1-is : (lmin lmax rmin rmax : Float) {a b : Float} → a ≡ dist1 binary64 lmin rmax → b ≡ dist1 binary64 lmax rmin → reach1 binary64 lmin lmax rmin rmax ≡ cond (lt b a) a b
 unfolding reach1
