@@ -1,8 +1,10 @@
 -- Nodes, sides and tiles of document 01 as the code holds them, and what the code asks of them. Assumes nothing.
-use Rattle.std.specs.Prelude.{List, ℕ, zero, suc, ◌+◌, ◌*◌, ◌≤◌, ◌<◌, length, Float}
+use Rattle.std.specs.Prelude.{List, ℕ, ◌+◌, ◌*◌, ◌≤◌, ◌<◌, length, Float}
 use Rattle.written.specs.LentTree.{Cursor, levels}
 use Rattle.written.specs.NodePairs.{Side, left_side, right_side}
-use Rattle.cursor.specs.declared.Cursor.{Cursor as Held}
+use Rattle.cursor.specs.declared.node.Cursor.{Cursor as Held}
+use Rattle.cursor.specs.declared.lent.Side.{Side as HeldSide}
+use Rattle.cursor.specs.declared.lent.Side.TheVariants.{Left, Right}
 
 -- the node that a cursor stands on
 abbrev pub node_of : Held → Cursor
@@ -20,10 +22,10 @@ pub record Splits (c : Cursor) : Type 0 where
   pub stem_small : c.stem < 4096
   pub first_small : c.first ≤ 4096
 
--- a side: 0 left, 1 right
-abbrev pub side_of : ℕ → Side
-side_of zero = left_side
-side_of (suc n) = right_side
+-- a side
+abbrev pub side_of : HeldSide → Side
+side_of Left = left_side
+side_of Right = right_side
 
 -- axis d of n points holds the places of a tile
 pub record Column (coords : List Float) (n d start end : ℕ) : Type 0 where

@@ -1,0 +1,77 @@
+// The two trees of a join as they are lent, and what is read of one.
+ghost use Rattle.std.specs.Prelude.{◌≡◌, ◌+◌, ◌-◌, ◌*◌, ◌≤◌, ◌<◌, min, length, take, drop, get_or};
+ghost use Rattle.std.specs.Float.{nan};
+ghost use Rattle.written.specs.NodePairs.{on_side};
+ghost use Rattle.cursor.specs.Held.{side_of, Column};
+
+use crate::node::{LeafIdx, StemIdx};
+
+// A lent tree: where each leaf's places begin, the pivots in Eytzinger order, and for each place its item and, axis by axis, its coordinates.
+#[derive(Clone, Copy)]
+pub struct Tree<'a> {
+    pub starts: &'a [u32],
+    pub stems: &'a [f64],
+    pub items: &'a [u32],
+    pub coords: &'a [f64],
+}
+
+#[derive(Clone, Copy, PartialEq, Eq)]
+pub enum Side {
+    Left,
+    Right,
+}
+
+// Both trees of a join, over k axes.
+#[derive(Clone, Copy)]
+pub struct Trees<'a> {
+    pub k: usize,
+    pub left: Tree<'a>,
+    pub right: Tree<'a>,
+}
+
+impl<'a> Trees<'a> {
+    pub fn on(&self, side: Side) -> Tree<'a>
+        ensures { result ≡ on_side (side_of side) self.now.left self.now.right }
+    {
+        match side {
+            Side::Left => self.left,
+            Side::Right => self.right,
+        }
+    }
+}
+
+impl<'a> Tree<'a> {
+    // Where a leaf's places begin; those of the leaf before end there.
+    pub fn start_of(&self, leaf: LeafIdx) -> usize
+        requires { leaf.0 < length self.now.starts.now }
+        ensures { result ≡ get_or self.now.starts.now leaf.0 0 }
+    {
+        self.starts[leaf.0 as usize] as usize
+    }
+
+    // A node's pivot.
+    pub fn pivot(&self, stem: StemIdx) -> f64
+        requires { stem.0 < length self.now.stems.now }
+        ensures { result ≡ get_or self.now.stems.now stem.0 nan }
+    {
+        self.stems[stem.0 as usize]
+    }
+
+    // A tile is a part of the lent column itself: at most 32 coordinates of axis d.
+    pub fn tile(&self, d: usize, start: usize, end: usize) -> &'a [f64]
+        requires { Column self.now.coords.now (length self.now.items.now) d start end }
+        ensures value { result.now ≡ take (end - start) (drop (d * length self.now.items.now + start) self.now.coords.now) }
+        ensures len { length result.now ≡ end - start }
+    {
+        let column = d * self.items.len();
+        &self.coords[column + start..column + end]
+    }
+}
+
+// Where the tile that begins at `start` ends, in a leaf that ends at `end`.
+pub fn tile_end(start: usize, end: usize) -> usize
+    requires { (start ≤ end) × (end ≤ 65536) }
+    ensures { result ≡ start + min 32 (end - start) }
+{
+    end.min(start + 32)
+}
