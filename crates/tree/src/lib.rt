@@ -1,38 +1,60 @@
 // The check of one lent tree: rules 1 to 7 of the table, in that order. Added by the port.
 #![tactic(auto)]
 
-ghost use Rattle.std.specs.Prelude.{◌≡◌, [], ◌≤◌};
+ghost use Rattle.std.specs.Prelude.{◌≡◌, ◌≤◌};
 ghost use Rattle.written.specs.LentTree.{stem_count};
-ghost use Rattle.written.specs.Check.{axes_ok, sizes_ok, lengths_ok, coords_ok, refusal as refusal_of};
-ghost use Rattle.tree.specs.Lent.{tree_of, Sized};
+ghost use Rattle.written.specs.Check.{axes_ok, sizes_ok, lengths_ok, coords_ok, refusal as refusal_of, number_of};
+ghost use Rattle.cursor.specs.Lent.{lent_tree};
+ghost use Rattle.tree.specs.Lent.{Sized};
+ghost use Rattle.tree.specs.Told.{rule_of, told};
 
-use cursor::Cursor;
+use cursor::{Cursor, Tree};
 
 mod order;
 mod pivots;
 mod starts;
 
-// 1: K is 1 to 4.
-fn axes_ok(k: u32) -> bool
-    ensures { result ≡ axes_ok k (tree_of [] [] [] []) }
-{
-    if k < 1 {
-        return false;
+// The rules, in the order in which they are checked.
+#[derive(Clone, Copy, PartialEq, Eq)]
+pub enum Rule {
+    Axes,
+    Sizes,
+    Lengths,
+    Starts,
+    Coords,
+    Pivots,
+    Order,
+}
+
+impl Rule {
+    // Its number in the table.
+    pub fn number(self) -> u32
+        ensures { result ≡ number_of (rule_of self) }
+    {
+        match self {
+            Rule::Axes => 1,
+            Rule::Sizes => 2,
+            Rule::Lengths => 3,
+            Rule::Starts => 4,
+            Rule::Coords => 5,
+            Rule::Pivots => 6,
+            Rule::Order => 7,
+        }
     }
-    k <= 4
+}
+
+// 1: K is 1 to 4.
+fn axes_ok(k: usize, tree: &Tree) -> bool
+    ensures { result ≡ axes_ok k (lent_tree tree.now) }
+{
+    1 <= k && k <= 4
 }
 
 // 2: some starts, at most 4,097 starts and 65,536 items.
-fn sizes_ok(starts: &[u32], items: &[u32]) -> bool
-    ensures { result ≡ sizes_ok 0 (tree_of starts.now [] items.now []) }
+fn sizes_ok(k: usize, tree: &Tree) -> bool
+    ensures { result ≡ sizes_ok k (lent_tree tree.now) }
 {
-    if starts.len() < 1 {
-        return false;
-    }
-    if 4097 < starts.len() {
-        return false;
-    }
-    items.len() <= 65536
+    1 <= tree.starts.len() && tree.starts.len() <= 4097 && tree.items.len() <= 65536
 }
 
 // The stems over m leaves: none below two leaves, else the next power of two.
@@ -40,62 +62,55 @@ pub fn stem_count(m: u32) -> usize
     requires { m ≤ 4096 }
     ensures { result ≡ stem_count m }
 {
-    if m < 2 {
-        return 0;
-    }
-    1usize << cursor::levels(m)
+    if m < 2 { 0 } else { 1 << cursor::levels(m) }
 }
 
 // 3: stems and coordinates of the right length.
-fn lengths_ok(k: u32, starts: &[u32], stems: &[f64], items: &[u32], coords: &[f64]) -> bool
-    requires { Sized k (tree_of starts.now stems.now items.now coords.now) }
-    ensures { result ≡ lengths_ok k (tree_of starts.now stems.now items.now coords.now) }
+fn lengths_ok(k: usize, tree: &Tree) -> bool
+    requires { Sized k (lent_tree tree.now) }
+    ensures { result ≡ lengths_ok k (lent_tree tree.now) }
 {
-    if stems.len() != stem_count((starts.len() - 1) as u32) {
-        return false;
-    }
-    coords.len() == k as usize * items.len()
+    tree.stems.len() == stem_count((tree.starts.len() - 1) as u32)
+        && tree.coords.len() == k * tree.items.len()
 }
 
 // 5: each coordinate is finite.
-fn coords_ok(coords: &[f64]) -> bool
-    ensures { result ≡ coords_ok 0 (tree_of [] [] [] coords.now) }
+fn coords_ok(k: usize, tree: &Tree) -> bool
+    ensures { result ≡ coords_ok k (lent_tree tree.now) }
 {
-    let mut i = 0;
-    while i < coords.len() {
-        if !metric::finite(coords[i]) {
+    for x in tree.coords {
+        if !metric::finite(*x) {
             return false;
         }
-        i += 1;
     }
     true
 }
 
-// The number of the first rule that the tree breaks, 0 if it breaks none.
-pub fn refusal(k: u32, starts: &[u32], stems: &[f64], items: &[u32], coords: &[f64]) -> u32
-    ensures { result ≡ refusal_of k (tree_of starts.now stems.now items.now coords.now) }
+// The first rule that the tree breaks, if it breaks one.
+pub fn check(k: usize, tree: &Tree) -> Result<(), Rule>
+    ensures { told result ≡ refusal_of k (lent_tree tree.now) }
 {
-    if !axes_ok(k) {
-        return 1;
+    if !axes_ok(k, tree) {
+        return Err(Rule::Axes);
     }
-    if !sizes_ok(starts, items) {
-        return 2;
+    if !sizes_ok(k, tree) {
+        return Err(Rule::Sizes);
     }
-    if !lengths_ok(k, starts, stems, items, coords) {
-        return 3;
+    if !lengths_ok(k, tree) {
+        return Err(Rule::Lengths);
     }
-    if !starts::starts_ok(starts, items) {
-        return 4;
+    if !starts::starts_ok(k, tree) {
+        return Err(Rule::Starts);
     }
-    if !coords_ok(coords) {
-        return 5;
+    if !coords_ok(k, tree) {
+        return Err(Rule::Coords);
     }
-    let root = Cursor::root((starts.len() - 1) as u32);
-    if !pivots::pivots_ok(k, starts, stems, items, coords, root) {
-        return 6;
+    let root = Cursor::root((tree.starts.len() - 1) as u32);
+    if !pivots::pivots_ok(k, tree, root) {
+        return Err(Rule::Pivots);
     }
-    if !order::order_ok(k, starts, stems, items, coords, root) {
-        return 7;
+    if !order::order_ok(k, tree, root) {
+        return Err(Rule::Order);
     }
-    0
+    Ok(())
 }

@@ -2,53 +2,32 @@
 ghost use Rattle.std.specs.Prelude.{◌≡◌, ◌<◌};
 ghost use Rattle.written.specs.Check.{down, no_pivot, pivot_ok};
 ghost use Rattle.cursor.specs.Held.{node_of};
-ghost use Rattle.tree.specs.Lent.{tree_of, Stands};
+ghost use Rattle.cursor.specs.Lent.{lent_tree};
+ghost use Rattle.tree.specs.Lent.{Stands};
 
-use cursor::Cursor;
+use cursor::{Cursor, Tree};
 
 fn no_pivot(x: f64) -> bool
     ensures { result ≡ no_pivot x }
 {
-    if x != x {
-        return true;
-    }
-    x == -1.0 / 0.0
+    x != x || x == f64::NEG_INFINITY
 }
 
-fn pivot_ok(k: u32, starts: &[u32], stems: &[f64], items: &[u32], coords: &[f64], c: Cursor) -> bool
-    requires { Stands k (tree_of starts.now stems.now items.now coords.now) (node_of c) × (0 < c.remaining) }
-    ensures { result ≡ pivot_ok k (tree_of starts.now stems.now items.now coords.now) (node_of c) }
+fn pivot_ok(k: usize, tree: &Tree, c: Cursor) -> bool
+    requires { Stands k (lent_tree tree.now) (node_of c) × (0 < c.remaining) }
+    ensures { result ≡ pivot_ok k (lent_tree tree.now) (node_of c) }
 {
-    if c.span() == 0 {
-        return true;
-    }
-    let stem = c.stem.0 as usize;
-    !no_pivot(stems[stem])
+    c.span() == 0 || !no_pivot(tree.pivot(c.stem))
 }
 
 // It holds for a node and for both its children, down to the last level.
-pub fn pivots_ok(
-    k: u32,
-    starts: &[u32],
-    stems: &[f64],
-    items: &[u32],
-    coords: &[f64],
-    c: Cursor,
-) -> bool
-    requires { Stands k (tree_of starts.now stems.now items.now coords.now) (node_of c) }
-    ensures { result ≡ down (pivot_ok k (tree_of starts.now stems.now items.now coords.now)) c.remaining (node_of c) }
+pub fn pivots_ok(k: usize, tree: &Tree, c: Cursor) -> bool
+    requires { Stands k (lent_tree tree.now) (node_of c) }
+    ensures { result ≡ down (pivot_ok k (lent_tree tree.now)) c.remaining (node_of c) }
 {
-    if c.remaining == 0 {
+    if c.is_leaf() {
         return true;
     }
-    if !pivot_ok(k, starts, stems, items, coords, c) {
-        return false;
-    }
     let halves = c.split();
-    let near = halves.near;
-    if !pivots_ok(k, starts, stems, items, coords, near) {
-        return false;
-    }
-    let far = halves.far;
-    pivots_ok(k, starts, stems, items, coords, far)
+    pivot_ok(k, tree, c) && pivots_ok(k, tree, halves.near) && pivots_ok(k, tree, halves.far)
 }

@@ -7,7 +7,7 @@ use Rattle.written.proofs.Checked.{rule_means}
 use Rattle.cursor.specs.Held.{node_of}
 use Rattle.tree.specs.Lent.{tree_of, Sized, Stands, order_at}
 use Rattle.tree.proofs.Descent.{under}
-use Rattle.tree.proofs.refusal.Goals as goal
+use Rattle.tree.proofs.check.Goals as goal
 
 pub returns-then-not-axes_ok : goal.returns-then-not-axes_ok
 unfolding refusal
