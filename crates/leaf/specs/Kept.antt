@@ -1,14 +1,14 @@
 -- What the join keeps of a point against a tile, of two tiles, of a tile against a leaf, and of two leaves (document 01: left tiles, within each the right tiles, then left points, then right points). Assumes nothing.
+use Rattle.written.specs.Boxes.{Edge}
 use Rattle.std.specs.Prelude.{List, Bool, ℕ, ◌+◌, ◌-◌, ◌^◌, ◌≤◌, length, Float}
 use Rattle.written.specs.Places.{over, cross}
 use Rattle.written.specs.Tiles.{tiles, each, by_tiles}
 use Rattle.written.specs.RadiusWalk.{Found, keep}
-use Rattle.metric.specs.Edges.{edge_of}
 use Rattle.leaf.specs.Lent.{join_of, stretch}
 
 -- of two places
-abbrev pub keeps : (K : ℕ) → (radius : Float) → (under : Bool) → (litems : List ℕ) → (lcoords : List Float) → (ritems : List ℕ) → (rcoords : List Float) → ℕ → ℕ → List Found
-keeps K radius under litems lcoords ritems rcoords = keep (join_of K litems lcoords ritems rcoords) (edge_of under) radius
+abbrev pub keeps : (K : ℕ) → (radius : Float) → (edge : Edge) → (litems : List ℕ) → (lcoords : List Float) → (ritems : List ℕ) → (rcoords : List Float) → ℕ → ℕ → List Found
+keeps K radius edge litems lcoords ritems rcoords = keep (join_of K litems lcoords ritems rcoords) edge radius
 
 module _ (f : ℕ → ℕ → List Found) where
   -- the left place p, the right places from a up to e

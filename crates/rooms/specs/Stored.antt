@@ -4,12 +4,11 @@ use Rattle.std.proofs.Math.Path.{refl}
 use Rattle.std.proofs.Common.{ap, ◌∙◌, arith}
 use Rattle.std.proofs.lemmas.List.Edits.{sets}
 use Rattle.written.specs.LentTree.{start}
-use Rattle.written.specs.Boxes.{Trees}
+use Rattle.written.specs.Boxes.{Edge, Trees}
 use Rattle.written.specs.NodePairs.{NodePair}
 use Rattle.written.specs.RadiusWalk.{Found, leaf_pair}
 use Rattle.written.specs.Answers.{PairRooms, pairs_stored}
 use Rattle.written.proofs.Laws.Rooms.{sets_stored}
-use Rattle.metric.specs.Edges.{edge_of}
 use Rattle.leaf.specs.Kept.{keeps, of_leaves}
 use Rattle.rooms.specs.Rooms.{Filling, filling, put, puts}
 
@@ -41,6 +40,6 @@ all_stored_lem b l =
 -- ---- what is kept depends on axes, items and coordinates alone, so that the loops over two leaves find what the walk's leaf pair finds
 
 module _ (j : Trees) where
-  pub leaf_kept : (radius : Float) (under : Bool) (s : NodePair) → of_leaves (keeps j.axes radius under j.left.items j.left.coords j.right.items j.right.coords) (start j.left s.left.first) (start j.left s.left.end) (start j.right s.right.first) (start j.right s.right.end) ≡ leaf_pair j (edge_of under) radius s
+  pub leaf_kept : (radius : Float) (edge : Edge) (s : NodePair) → of_leaves (keeps j.axes radius edge j.left.items j.left.coords j.right.items j.right.coords) (start j.left s.left.first) (start j.left s.left.end) (start j.right s.right.first) (start j.right s.right.end) ≡ leaf_pair j edge radius s
   unfolding leaf_pair
-  leaf_kept radius under s = refl
+  leaf_kept radius edge s = refl

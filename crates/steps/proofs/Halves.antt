@@ -10,6 +10,8 @@ use Rattle.written.specs.NodePairs.{corner}
 use Rattle.written.proofs.Laws.Boxes.{Sized}
 use Rattle.metric.specs.Flat.{boxes_of}
 use Rattle.cursor.specs.Held.{side_of}
+use Rattle.cursor.specs.declared.lent.Side.TheVariants.{Left, Right}
+use Rattle.cursor.specs.declared.lent.Side.{Side as HeldSide}
 
 -- the radius walk takes the near half first, nearest the far one
 pub data Order : Type 0 where
@@ -36,13 +38,13 @@ second_has P far_first p q = p
 -- ---- a box side put anew
 
 -- where a waiting entry's numbers stand in the boxes
-abbrev pub slot_of : ℕ → ℕ → ℕ
+abbrev pub slot_of : HeldSide → ℕ → ℕ
 slot_of side axis = corner (side_of side) + axis
 
 -- and that they are among the eight
-pub within_boxes : (side axis : ℕ) {i : ℕ} → i ≡ slot_of side axis → axis < 4 → i < 8
-within_boxes zero axis e h = omega arith
-within_boxes (suc side) axis e h = omega arith
+pub within_boxes : (side : HeldSide) (axis : ℕ) {i : ℕ} → i ≡ slot_of side axis → axis < 4 → i < 8
+within_boxes Left axis e h = omega arith
+within_boxes Right axis e h = omega arith
 
 abbrev pub put : ℕ → Float → Float → Boxes → Boxes
 put i lo hi b = record { mins = set b.mins i lo; maxs = set b.maxs i hi }

@@ -15,6 +15,7 @@ use Rattle.steps.specs.declared.waiting.Waiting.{Waiting}
 use Rattle.steps.specs.declared.waiting.Waiting.TheVariants.{Half, Restore}
 use Rattle.steps.specs.Standing.{pair_at}
 use Rattle.steps.proofs.Halves.{Order, first, second, slot_of, put, waiting_boxes}
+use Rattle.cursor.specs.declared.lent.Side.{Side as HeldSide}
 
 -- the levels left below a node pair
 abbrev pub levels_left : NodePair → ℕ
@@ -75,12 +76,12 @@ module _ {j : Trees} {W : Type 0} (k : Walk j W) where
   unfolding resume
   resume_none b w = refl
 
-  pub resume_half : (b : Boxes) (side axis : ℕ) (lo hi v : Float) (at : Nodes) (ws : List Waiting) (w : W)
+  pub resume_half : (b : Boxes) (side : HeldSide) (axis : ℕ) (lo hi v : Float) (at : Nodes) (ws : List Waiting) (w : W)
       → resume b (Half side axis lo hi v at ∷ ws) w ≡ resume (put (slot_of side axis) lo hi b) ws (k.walks (pair_at at (waiting_boxes k.order (slot_of side axis) lo hi v b)) w)
   unfolding resume
   resume_half b side axis lo hi v at ws w = refl
 
-  pub resume_back : (b : Boxes) (side axis : ℕ) (lo hi : Float) (ws : List Waiting) (w : W) → resume b (Restore side axis lo hi ∷ ws) w ≡ resume (put (slot_of side axis) lo hi b) ws w
+  pub resume_back : (b : Boxes) (side : HeldSide) (axis : ℕ) (lo hi : Float) (ws : List Waiting) (w : W) → resume b (Restore side axis lo hi ∷ ws) w ≡ resume (put (slot_of side axis) lo hi b) ws w
   unfolding resume
   resume_back b side axis lo hi ws w = refl
 

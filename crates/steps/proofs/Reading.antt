@@ -18,6 +18,7 @@ use Rattle.leaf.specs.Lent.{Stretch}
 use Rattle.steps.specs.declared.nodes.Nodes.{Nodes}
 use Rattle.steps.specs.Standing.{pair_at, Ordered, Within, chosen, SplitsAt}
 use Rattle.steps.specs.Ending.{Leaves}
+use Rattle.cursor.specs.declared.lent.Side.{Side as HeldSide}
 
 module _ (j : Trees) (ok : Accepts j) where
   pub keeps : (x : Side) (r : Rule) → Kept j.axes (tree_of j x) r
@@ -55,9 +56,9 @@ module _ (j : Trees) (ok : Accepts j) where
       pair = record { some_axes = (keeps left_side rule₁).0; few_axes = (keeps left_side rule₁).1; left = stretch left_side (node_of at.left) (node left_side); right = stretch right_side (node_of at.right) (node right_side) };
     }
 
-    splits_on : (x : Side) (side : ℕ) → side_of side ≡ x → 0 < (cursor_of x (pair_at at (record { mins = []; maxs = [] }))).rest → SplitsAt j.axes j.left.stems j.right.stems side at
+    splits_on : (x : Side) (side : HeldSide) → side_of side ≡ x → 0 < (cursor_of x (pair_at at (record { mins = []; maxs = [] }))).rest → SplitsAt j.axes j.left.stems j.right.stems side at
     splits_on left_side side e h = let s = stands left_side (node_of at.left) (node left_side) in record { some_axis = (keeps left_side rule₁).0; splits = rw e (splits s h); stem_read = rw e (stem_read s h) }
     splits_on right_side side e h = let s = stands right_side (node_of at.right) (node right_side) in record { some_axis = (keeps right_side rule₁).0; splits = rw e (splits s h); stem_read = rw e (stem_read s h) }
 
-    pub splits_there : (side : ℕ) → 0 < (chosen side at).rest → SplitsAt j.axes j.left.stems j.right.stems side at
+    pub splits_there : (side : HeldSide) → 0 < (chosen side at).rest → SplitsAt j.axes j.left.stems j.right.stems side at
     splits_there side h = splits_on (side_of side) side refl h

@@ -12,22 +12,23 @@ use Rattle.metric.specs.Flat.{boxes_of}
 use Rattle.steps.specs.declared.nodes.Nodes.{Nodes}
 use Rattle.steps.specs.declared.waiting.Waiting.{Waiting}
 use Rattle.steps.specs.declared.waiting.Waiting.TheVariants.{Half, Restore}
-use Rattle.steps.specs.declared.waiting.Popped.TheVariants.{Entry, Nothing}
+use Rattle.std.specs.Prelude.{Some, None}
 use Rattle.steps.specs.Standing.{pair_at}
 use Rattle.steps.proofs.Halves.{slot_of, within_boxes, put, put_put, put_sized, waiting_min, waiting_max, waiting_boxes}
 use Rattle.steps.proofs.Waits.{view, view_push, view_length, taken, none_taken, some_taken}
 use Rattle.steps.proofs.Pending.{Walk, resume, resume_none, resume_half, resume_back}
 use Rattle.steps.proofs.Going.{Sound, Going, room}
+use Rattle.cursor.specs.declared.lent.Side.{Side as HeldSide}
 
 module _ {j : Trees} {W : Type 0} {k : Walk j W} (ok : Accepts j) {all : W} {at : Nodes} {b : Boxes} {w : W} {stack : List Waiting} {len : ℕ} (g : Going k all at b w stack len false) where
   abbrev Takes : Waiting → Type 0
-  Takes e = taken (view len stack) ≡ Entry e
+  Takes e = taken (view len stack) ≡ Some e
 
   abbrev rest : List Waiting
   rest = view (len - 1) stack
 
   -- a half: its box side is put, and waits to be put back
-  module _ (f : Nodes) (side axis : ℕ) (lo hi v : Float) (e : Takes (Half side axis lo hi v f)) where
+  module _ (f : Nodes) (side : HeldSide) (axis : ℕ) (lo hi v : Float) (e : Takes (Half side axis lo hi v f)) where
     abbrev cut : Boxes
     cut = waiting_boxes k.order (slot_of side axis) lo hi v b
 
@@ -72,7 +73,7 @@ module _ {j : Trees} {W : Type 0} {k : Walk j W} (ok : Accepts j) {all : W} {at 
     half_slot p = within_boxes side axis p half_axis
 
   -- a box side is put back
-  module _ (side axis : ℕ) (lo hi : Float) (e : Takes (Restore side axis lo hi)) where
+  module _ (side : HeldSide) (axis : ℕ) (lo hi : Float) (e : Takes (Restore side axis lo hi)) where
     sound_side : Sound j k.order b (Restore side axis lo hi ∷ rest)
     sound_side = subst (Sound j k.order b) (some_taken len stack e).1 g.waits
 
@@ -99,5 +100,5 @@ module _ {j : Trees} {W : Type 0} {k : Walk j W} (ok : Accepts j) {all : W} {at 
     side_slot p = within_boxes side axis p side_axis
 
   -- when nothing waits, the walk is over
-  pub turn_over : taken (view len stack) ≡ Nothing → w ≡ all
+  pub turn_over : taken (view len stack) ≡ None → w ≡ all
   turn_over e = sym (resume_none k b w) ∙ ap (λ (ws : List Waiting). resume k b ws w) (sym (none_taken (view len stack) e)) ∙ g.owes

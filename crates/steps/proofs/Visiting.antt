@@ -26,16 +26,13 @@ use Rattle.steps.proofs.Waits.{view, view_push, view_length}
 use Rattle.steps.proofs.Pending.{levels_left, OnwardFrom, BelowIt, goes_below, forks_below, Walk, resume, resume_half}
 use Rattle.steps.proofs.Reading.{keeps, splits_there}
 use Rattle.steps.proofs.Going.{Sound, Going, room}
+use Rattle.cursor.specs.declared.lent.Side.{Side as HeldSide}
 
 -- a visit does x, which is to split that side, and the side has a level left
-pub record SplitsOn (j : Trees) (s : NodePair) (x : Step NodePair) (side : ℕ) : Type 0 where
+pub record SplitsOn (j : Trees) (s : NodePair) (x : Step NodePair) (side : HeldSide) : Type 0 where
   pub splits_so : x ≡ split j (picked s) s
   pub side_is : side_of side ≡ picked s
   pub no_leaves : (is_leaf s.left && is_leaf s.right) ≡ false
-
-pub side_picked : (right : Bool) → side_of (cond right 1 0) ≡ cond right right_side left_side
-side_picked true = refl
-side_picked false = refl
 
 -- both halves, in the order in which they are taken
 first_is : (o : Order) {n f : Nodes} {low high : Boxes} {t u : NodePair} → pair_at n low ≡ t → pair_at f high ≡ u → pair_at (first o n f) (first o low high) ≡ first o t u
@@ -53,7 +50,7 @@ module _ {j : Trees} {W : Type 0} {k : Walk j W} (ok : Accepts j) {all : W} {at 
   pub good_here : Good j (levels_left s) s
   good_here = g.good refl
 
-  pub splits_here : {side : ℕ} → SplitsOn j s (k.next w s) side → SplitsAt j.axes j.left.stems j.right.stems side at
+  pub splits_here : {side : HeldSide} → SplitsOn j s (k.next w s) side → SplitsAt j.axes j.left.stems j.right.stems side at
   splits_here {side} p = splits_there j ok at good_here.node side (subst (λ (y : Side). 0 < (cursor_of y s).rest) (sym p.side_is) (picked_rest j (both_accepted j ok) s p.no_leaves))
 
   -- it ends
@@ -69,7 +66,7 @@ module _ {j : Trees} {W : Type 0} {k : Walk j W} (ok : Accepts j) {all : W} {at 
   }
 
   -- it splits
-  module _ (side : ℕ) (p : SplitsOn j s (k.next w s) side) (d : Descent) (q : Descended j.axes j.left.stems j.right.stems side at d) where
+  module _ (side : HeldSide) (p : SplitsOn j s (k.next w s) side) (d : Descent) (q : Descended j.axes j.left.stems j.right.stems side at d) where
     abbrev x : Side
     x = side_of side
 

@@ -8,19 +8,12 @@ use borrow.Author.Tests.{ne_eqb}
 use lib.ListN.{length, get_or, set}
 use lib.Seq.{get_or-set_same, get_or-set_other}
 use lib.Ieee.{nan}
-use Rattle.cursor.specs.declared.Cursor.{Cursor}
+use Rattle.cursor.specs.declared.node.Cursor.{Cursor}
 use Rattle.steps.specs.declared.waiting.Waiting.{Waiting}
 use Rattle.steps.specs.declared.waiting.Waiting.TheVariants.{Half}
-use Rattle.steps.specs.declared.waiting.Popped.{Popped}
-use Rattle.steps.specs.declared.waiting.Popped.TheVariants.{Entry, Nothing}
-use Rattle.steps.specs.Popping.{popped_of}
-
--- what is read past the end of the array
-abbrev nowhere : Cursor
-nowhere = record { stem = record { 0 = 0 }; first = record { 0 = 0 }; end = record { 0 = 0 }; level = 0; remaining = 0 }
-
-abbrev pub blank : Waiting
-blank = Half 0 0 nan nan nan (record { left = nowhere; right = nowhere })
+use Rattle.std.specs.Prelude.{Option}
+use Rattle.std.specs.Prelude.{Some, None}
+use Rattle.steps.specs.Popping.{popped_of, blank}
 
 -- the first n entries of the array, the last of them first
 abbrev pub view : ℕ → List Waiting → List Waiting
@@ -40,22 +33,22 @@ view_length (suc n) s = ap suc (view_length n s)
 
 -- ---- what is taken
 
-abbrev pub taken : List Waiting → Popped
-taken [] = Nothing
-taken (w ∷ ws) = Entry w
+abbrev pub taken : List Waiting → Option Waiting
+taken [] = None
+taken (w ∷ ws) = Some w
 
--- the code's pop, of the entry that it read at the top, takes the first of the list
-pub pop_takes : (n top : ℕ) (s : List Waiting) (r : Popped) → top ≡ n - 1 → r ≡ popped_of n (get_or s top blank) → taken (view n s) ≡ r
-pop_takes zero top s r e h = sym h
-pop_takes (suc n) top s r e h =
+-- the code's pop takes the first of the list
+pub pop_takes : (n : ℕ) (s : List Waiting) (r : Option Waiting) → r ≡ popped_of n (get_or s (n - 1) blank) → taken (view n s) ≡ r
+pop_takes zero s r h = sym h
+pop_takes (suc n) s r h =
     let k : suc n - 1 ≡ n = omega arith in
-    ap (λ (i : ℕ). Entry (get_or s i blank)) (sym (e ∙ k)) ∙ sym (h ∙ simp (ne_eqb (suc n) 0 (λ z. omega arith)))
+    ap (λ (i : ℕ). Some (get_or s i blank)) (sym k) ∙ sym (h ∙ simp (ne_eqb (suc n) 0 (λ z. omega arith)))
 
-pub none_taken : (ws : List Waiting) → taken ws ≡ Nothing → ws ≡ []
+pub none_taken : (ws : List Waiting) → taken ws ≡ None → ws ≡ []
 none_taken [] e = refl
 none_taken (w ∷ ws) e = let z : ◌≡◌ {A = ℕ} 0 1 = cc in absurd (omega arith)
 
-pub some_taken : (n : ℕ) (s : List Waiting) {w : Waiting} → taken (view n s) ≡ Entry w → (0 < n) × (view n s ≡ w ∷ view (n - 1) s)
+pub some_taken : (n : ℕ) (s : List Waiting) {w : Waiting} → taken (view n s) ≡ Some w → (0 < n) × (view n s ≡ w ∷ view (n - 1) s)
 some_taken zero s e = let z : ◌≡◌ {A = ℕ} 0 1 = cc in absurd (omega arith)
 some_taken (suc n) s {w} e =
     let k : suc n - 1 ≡ n = omega arith in

@@ -7,6 +7,7 @@ use Rattle.written.specs.NodePairs.{NodePair, on_side, moved}
 use Rattle.cursor.specs.Held.{node_of, Splits, side_of}
 use Rattle.steps.specs.declared.nodes.Nodes.{Nodes}
 use Rattle.steps.specs.declared.descent.Descent.{Descent}
+use Rattle.cursor.specs.declared.lent.Side.{Side as HeldSide}
 
 -- the node pair, with the boxes of both
 abbrev pub pair_at : Nodes → Boxes → NodePair
@@ -31,17 +32,17 @@ points_of starts c = get_or starts c.end 0 - get_or starts c.first 0
 -- ---- one level down
 
 -- the node on the side that is split
-abbrev pub chosen : ℕ → Nodes → Cursor
+abbrev pub chosen : HeldSide → Nodes → Cursor
 chosen side at = on_side (side_of side) (node_of at.left) (node_of at.right)
 
 -- it splits, and its pivot is among its tree's stems
-pub record SplitsAt (K : ℕ) (lstems rstems : List Float) (side : ℕ) (at : Nodes) : Type 0 where
+pub record SplitsAt (K : ℕ) (lstems rstems : List Float) (side : HeldSide) (at : Nodes) : Type 0 where
   pub some_axis : 0 < K
   pub splits : Splits (chosen side at)
   pub stem_read : (chosen side at).stem < length (on_side (side_of side) lstems rstems)
 
 -- both halves, the axis, and the pivot
-pub record Descended (K : ℕ) (lstems rstems : List Float) (side : ℕ) (at : Nodes) (r : Descent) : Type 0 where
+pub record Descended (K : ℕ) (lstems rstems : List Float) (side : HeldSide) (at : Nodes) (r : Descent) : Type 0 where
   pub to_near : (b : Boxes) → pair_at r.near b ≡ moved (side_of side) (near (chosen side at)) b (pair_at at b)
   pub to_far : (b : Boxes) → pair_at r.far b ≡ moved (side_of side) (far (chosen side at)) b (pair_at at b)
   pub on_axis : r.axis ≡ axis K (chosen side at)

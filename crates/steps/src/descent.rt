@@ -2,7 +2,8 @@
 ghost use Rattle.std.specs.Prelude.{◌<◌};
 ghost use Rattle.steps.specs.Standing.{SplitsAt, Descended};
 
-use crate::nodes::{Nodes, cursor_of};
+use crate::nodes::Nodes;
+use cursor::{Side, Trees};
 
 #[derive(Clone, Copy)]
 pub struct Descent {
@@ -12,32 +13,40 @@ pub struct Descent {
     pub pivot: f64,
 }
 
-pub fn descend<'a>(k: u32, lstems: &'a [f64], rstems: &'a [f64], side: usize, at: Nodes) -> Descent
-    requires { SplitsAt k lstems.now rstems.now side at }
-    ensures { Descended k lstems.now rstems.now side at result }
+pub fn descend(trees: &Trees, side: Side, at: Nodes) -> Descent
+    requires { SplitsAt trees.now.k trees.now.left.stems.now trees.now.right.stems.now side at }
+    ensures { Descended trees.now.k trees.now.left.stems.now trees.now.right.stems.now side at result }
 {
-    let c = cursor_of(side, at);
-    let halves = c.split();
-    let near = halves.near;
-    let far = halves.far;
-    let axis = c.axis(k) as usize;
-    let stem = c.stem;
-    let stems = cursor::stems_from(lstems, rstems, side, stem);
-    let pivot = stems[0];
+    let node = at.on(side);
+    let halves = node.split();
+    let axis = node.axis(trees.k);
+    let pivot = trees.on(side).pivot(node.stem);
     let left = at.left;
     let right = at.right;
-    if side == 0 {
-        return Descent {
-            near: Nodes { left: near, right },
-            far: Nodes { left: far, right },
+    match side {
+        Side::Left => Descent {
+            near: Nodes {
+                left: halves.near,
+                right,
+            },
+            far: Nodes {
+                left: halves.far,
+                right,
+            },
             axis,
             pivot,
-        };
-    }
-    Descent {
-        near: Nodes { left, right: near },
-        far: Nodes { left, right: far },
-        axis,
-        pivot,
+        },
+        Side::Right => Descent {
+            near: Nodes {
+                left,
+                right: halves.near,
+            },
+            far: Nodes {
+                left,
+                right: halves.far,
+            },
+            axis,
+            pivot,
+        },
     }
 }

@@ -4,7 +4,7 @@ ghost use Rattle.written.specs.NodePairs.{on_side, corner};
 ghost use Rattle.cursor.specs.Held.{node_of, root_over, side_of};
 ghost use Rattle.steps.specs.Standing.{Within, points_of};
 
-use cursor::Cursor;
+use cursor::{Cursor, Side, Tree, Trees};
 
 #[derive(Clone, Copy)]
 pub struct Nodes {
@@ -12,51 +12,54 @@ pub struct Nodes {
     pub right: Cursor,
 }
 
-// The root of each tree.
-pub fn roots(lstarts: &[u32], rstarts: &[u32]) -> Nodes
-    requires { (1 ≤ length lstarts.now) × (length lstarts.now ≤ 4097) × (1 ≤ length rstarts.now) × (length rstarts.now ≤ 4097) }
-    ensures { (node_of result.left ≡ root_over (length lstarts.now - 1)) × (node_of result.right ≡ root_over (length rstarts.now - 1)) }
-{
-    let left = Cursor::root((lstarts.len() - 1) as u32);
-    let right = Cursor::root((rstarts.len() - 1) as u32);
-    Nodes { left, right }
-}
-
-// The node on a side (0 left, 1 right).
-pub fn cursor_of(side: usize, at: Nodes) -> Cursor
-    ensures { result ≡ on_side (side_of side) at.left at.right }
-{
-    if side == 0 {
-        return at.left;
+impl Nodes {
+    // The root of each tree.
+    pub fn roots(trees: &Trees) -> Self
+        requires left { (1 ≤ length trees.now.left.starts.now) × (length trees.now.left.starts.now ≤ 4097) }
+        requires right { (1 ≤ length trees.now.right.starts.now) × (length trees.now.right.starts.now ≤ 4097) }
+        ensures left { node_of result.left ≡ root_over (length trees.now.left.starts.now - 1) }
+        ensures right { node_of result.right ≡ root_over (length trees.now.right.starts.now - 1) }
+    {
+        Self {
+            left: Cursor::root((trees.left.starts.len() - 1) as u32),
+            right: Cursor::root((trees.right.starts.len() - 1) as u32),
+        }
     }
-    at.right
+
+    // The node on a side.
+    pub fn on(self, side: Side) -> Cursor
+        ensures { result ≡ on_side (side_of side) self.left self.right }
+    {
+        match side {
+            Side::Left => self.left,
+            Side::Right => self.right,
+        }
+    }
 }
 
 // Where a side's axis stands in the boxes.
-pub fn slot(side: usize, axis: usize) -> usize
+pub fn slot(side: Side, axis: usize) -> usize
     requires { axis < 4 }
     ensures { result ≡ corner (side_of side) + axis }
 {
-    if side == 0 {
-        return axis;
+    match side {
+        Side::Left => axis,
+        Side::Right => 4 + axis,
     }
-    4 + axis
 }
 
 // How many points are under a node.
-fn points(starts: &[u32], c: Cursor) -> u64
-    requires { Within starts.now (node_of c) }
-    ensures { result ≡ points_of starts.now (node_of c) }
+fn points(tree: &Tree, node: Cursor) -> u64
+    requires { Within tree.now.starts.now (node_of node) }
+    ensures { result ≡ points_of tree.now.starts.now (node_of node) }
 {
-    let first = c.first;
-    let end = c.end;
-    (cursor::start_of(starts, end) - cursor::start_of(starts, first)) as u64
+    (tree.start_of(node.end) - tree.start_of(node.first)) as u64
 }
 
 // How many pairs of points are under two nodes.
-pub fn area(lstarts: &[u32], rstarts: &[u32], at: Nodes) -> u64
-    requires { Within lstarts.now (node_of at.left) × Within rstarts.now (node_of at.right) }
-    ensures { result ≡ points_of lstarts.now (node_of at.left) * points_of rstarts.now (node_of at.right) }
+pub fn area(trees: &Trees, at: Nodes) -> u64
+    requires { Within trees.now.left.starts.now (node_of at.left) × Within trees.now.right.starts.now (node_of at.right) }
+    ensures { result ≡ points_of trees.now.left.starts.now (node_of at.left) * points_of trees.now.right.starts.now (node_of at.right) }
 {
-    points(lstarts, at.left) * points(rstarts, at.right)
+    points(&trees.left, at.left) * points(&trees.right, at.right)
 }

@@ -4,7 +4,7 @@ ghost use Rattle.written.specs.Totals.{none};
 ghost use Rattle.written.specs.Visits.{ruled, whole, measured};
 ghost use Rattle.steps.specs.Counted.{totals_held, visited, adding};
 
-#[derive(Clone, Copy)]
+#[derive(Clone, Copy, PartialEq, Eq)]
 pub struct Tally {
     pub found: u64,
     pub visits: u64,
@@ -31,9 +31,10 @@ impl Tally {
         requires { self.visits < 2 ^ 63 }
         ensures { (result.found ≡ self.found) × (totals_held result ≡ visited (totals_held self)) }
     {
-        let mut t = self;
-        t.visits = t.visits + 1;
-        t
+        Self {
+            visits: self.visits + 1,
+            ..self
+        }
     }
 
     // n pairs of places are ruled out.
@@ -41,9 +42,10 @@ impl Tally {
         requires { self.ruled + n < 2 ^ 63 }
         ensures { (result.found ≡ self.found) × (totals_held result ≡ adding ruled n (totals_held self)) }
     {
-        let mut t = self;
-        t.ruled = t.ruled + n;
-        t
+        Self {
+            ruled: self.ruled + n,
+            ..self
+        }
     }
 
     // n pairs of places are taken whole, and so found.
@@ -51,10 +53,11 @@ impl Tally {
         requires { (self.whole + n < 2 ^ 63) × (self.found + n < 2 ^ 63) }
         ensures { (result.found ≡ self.found + n) × (totals_held result ≡ adding whole n (totals_held self)) }
     {
-        let mut t = self;
-        t.whole = t.whole + n;
-        t.found = t.found + n;
-        t
+        Self {
+            whole: self.whole + n,
+            found: self.found + n,
+            ..self
+        }
     }
 
     // n pairs of places are measured; `found` are found by now.
@@ -62,9 +65,10 @@ impl Tally {
         requires { self.measured + n < 2 ^ 63 }
         ensures { (result.found ≡ found) × (totals_held result ≡ adding measured n (totals_held self)) }
     {
-        let mut t = self;
-        t.measured = t.measured + n;
-        t.found = found;
-        t
+        Self {
+            measured: self.measured + n,
+            found,
+            ..self
+        }
     }
 }
