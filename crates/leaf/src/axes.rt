@@ -1,30 +1,17 @@
 // The squared distances of one point to the points of a tile, axis by axis, up to the last axis, which the loops add themselves.
-ghost use Rattle.std.specs.Prelude.{◌+◌, ◌-◌, ◌*◌, ◌≤◌, ◌<◌, length, get_or};
+ghost use Rattle.std.specs.Prelude.{◌-◌, ◌≤◌, cond, length, get_or};
 ghost use Rattle.std.specs.Float.{nan};
 ghost use Rattle.rounding.specs.Distance.{zero₊};
 ghost use Rattle.leaf.specs.Sums.{Holds, grown, sum_to, Fresh, PointTile};
 
-// The first axis: the sums begin at 0. The row comes as a slice, since lending the array as one tells the proof how long it is.
-fn set_axis(sums: &mut [f64], q: f64, column: &[f64])
+// One axis more of the distances: where it is the FIRST, the sums begin at 0. The row comes as a slice, since lending the array as one tells the proof how long it is.
+fn add_axis<const FIRST: bool>(sums: &mut [f64], q: f64, column: &[f64])
     requires { length column.now ≤ length sums.old }
-    ensures { Holds sums.new (length column.now) (λ j. grown zero₊ q (get_or column.now j nan)) }
+    ensures { Holds sums.new (length column.now) (λ j. grown (cond FIRST zero₊ (get_or sums.old j nan)) q (get_or column.now j nan)) }
 {
-    let mut j = 0;
-    while j < column.len() {
-        sums[j] = 0.0 + metric::square(q, column[j]);
-        j += 1;
-    }
-}
-
-// A later axis.
-fn add_axis(sums: &mut [f64], q: f64, column: &[f64])
-    requires { length column.now ≤ length sums.old }
-    ensures { Holds sums.new (length column.now) (λ j. grown (get_or sums.old j nan) q (get_or column.now j nan)) }
-{
-    let mut j = 0;
-    while j < column.len() {
-        sums[j] = sums[j] + metric::square(q, column[j]);
-        j += 1;
+    for (j, x) in column.iter().enumerate() {
+        let sum = if FIRST { 0.0 } else { sums[j] };
+        sums[j] = sum + metric::square(q, *x);
     }
 }
 
@@ -47,11 +34,9 @@ pub fn first_axes(
     if k == 1 {
         return;
     }
-    set_axis(sums, pcoords[p], cursor::tile(coords, n, 0, a, e));
-    let mut d = 1;
-    while d < k - 1 {
+    add_axis::<true>(sums, pcoords[p], cursor::tile(coords, n, 0, a, e));
+    for d in 1..k - 1 {
         let at = d * pn + p;
-        add_axis(sums, pcoords[at], cursor::tile(coords, n, d, a, e));
-        d += 1;
+        add_axis::<false>(sums, pcoords[at], cursor::tile(coords, n, d, a, e));
     }
 }

@@ -11,9 +11,5 @@ pub mod axes;
 pub fn passes(distance: f64, radius: f64, under: bool) -> u64
     ensures { result ≡ cond (passes_radius (edge_of under) radius distance) 1 0 }
 {
-    if metric::accepts(distance, radius, under) {
-        1
-    } else {
-        0
-    }
+    u64::from(metric::accepts(distance, radius, under))
 }

@@ -20,10 +20,10 @@ loop-d-init c =
     let s = c.before.before.before.before.before.before.before.before in
     let a = s.args in
     let more : 1 < a.k = omega arith in
-    (more, more, s.requires.few_axes, s.requires.point_small, s.requires.point, s.requires.tile, first_axis a.pcoords.now a.pn a.p a.coords.now a.n a.a (a.e - a.a) c.set_axis.new.sums _ c.tile.ensures.result_value c.tile.ensures.result_len c.set_axis.ensures)
+    (more, s.requires.few_axes, s.requires.point_small, s.requires.point, s.requires.tile, first_axis a.pcoords.now a.pn a.p a.coords.now a.n a.a (a.e - a.a) c.add_axis.new.sums _ c.tile.ensures.result_value c.tile.ensures.result_len c.add_axis.ensures)
 
 pub loop-d-preserved : goal.loop-d-preserved
 loop-d-preserved c =
     let l = c.loop-d in
     let a = c.args in
-    (omega arith, l.invariant.1, l.invariant.2, l.invariant.3, l.invariant.4, l.invariant.5, rw (add-one l.d) (axis_next a.pcoords.now a.pn a.p a.coords.now a.n a.a l.d (a.e - a.a) (λ j. get_or l.sums j nan) _ c.add_axis.new.sums _ l.invariant.6 refl c.tile-in-loop-d.ensures.result_value c.tile-in-loop-d.ensures.result_len c.add_axis.ensures))
+    (l.invariant.0, l.invariant.1, l.invariant.2, l.invariant.3, l.invariant.4, rw (add-one l.d) (axis_next a.pcoords.now a.pn a.p a.coords.now a.n a.a l.d (a.e - a.a) (λ j. get_or l.sums j nan) _ c.add_axis-in-loop-d.new.sums _ l.invariant.5 refl c.tile-in-loop-d.ensures.result_value c.tile-in-loop-d.ensures.result_len c.add_axis-in-loop-d.ensures))

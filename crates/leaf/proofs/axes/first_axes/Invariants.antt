@@ -6,7 +6,4 @@ use Rattle.leaf.proofs.axes.first_axes.Given as goal
 
 abbrev pub invariant-loop-d : goal.invariant-loop-d
 invariant-loop-d l =
-    (l.d < l.k) × (1 < l.k) × (l.k ≤ 4) × (l.pn ≤ 65536) × HoldsPlace l.k l.pcoords l.pn l.p × TileOf l.k l.coords l.n l.a l.e × Holds l.sums (l.e - l.a) (sum_to l.pcoords l.pn l.p l.coords l.n l.a l.d)
-
-abbrev pub decreases-loop-d : goal.decreases-loop-d
-decreases-loop-d l = l.k - l.d
+    (1 < l.k) × (l.k ≤ 4) × (l.pn ≤ 65536) × HoldsPlace l.k l.pcoords l.pn l.p × TileOf l.k l.coords l.n l.a l.e × Holds l.sums (l.e - l.a) (sum_to l.pcoords l.pn l.p l.coords l.n l.a l.d)
