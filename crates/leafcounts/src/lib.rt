@@ -16,10 +16,8 @@ fn passing(sums: &[f64; 32], q: f64, column: &[f64], radius: f64, under: bool) -
     ensures { result ≡ hits (passing_of (edge_of under) radius (reached sums.now q column.now)) (length column.now) }
 {
     let mut n = 0;
-    let mut j = 0;
-    while j < column.len() {
-        n = n + passes(sums[j] + metric::square(q, column[j]), radius, under);
-        j += 1;
+    for (j, x) in column.iter().enumerate() {
+        n += passes(sums[j] + metric::square(q, *x), radius, under);
     }
     n
 }
@@ -76,13 +74,10 @@ fn tile_counts(
 {
     let mut sums = [0.0; 32];
     let mut n = 0;
-    let mut p = la;
-    while p < le {
-        n = n
-            + point_count(
-                k, radius, under, litems, lcoords, p, ritems, rcoords, ra, re, &mut sums,
-            );
-        p += 1;
+    for p in la..le {
+        n += point_count(
+            k, radius, under, litems, lcoords, p, ritems, rcoords, ra, re, &mut sums,
+        );
     }
     n
 }
@@ -107,12 +102,12 @@ fn tile_leaf_counts(
 {
     let mut n = 0;
     let mut ra = rs;
+    // No index is counted: a tile begins where the one before it ended, and the last may be a short one.
     while ra < rend {
         let re = cursor::tile_end(ra, rend);
-        n = n
-            + tile_counts(
-                k, radius, under, litems, lcoords, la, le, ritems, rcoords, ra, re,
-            );
+        n += tile_counts(
+            k, radius, under, litems, lcoords, la, le, ritems, rcoords, ra, re,
+        );
         ra = re;
     }
     n
@@ -137,12 +132,12 @@ pub fn leaf_counts(
 {
     let mut n = 0;
     let mut la = ls;
+    // As the right tiles, each from the end of the one before it.
     while la < lend {
         let le = cursor::tile_end(la, lend);
-        n = n
-            + tile_leaf_counts(
-                k, radius, under, litems, lcoords, la, le, ritems, rcoords, rs, rend,
-            );
+        n += tile_leaf_counts(
+            k, radius, under, litems, lcoords, la, le, ritems, rcoords, rs, rend,
+        );
         la = le;
     }
     n

@@ -10,23 +10,11 @@ ghost use Rattle.leafnearest.specs.Answers.{answers, closer, offered, improved, 
 
 use leaf::axes::first_axes;
 
-// The item that stays: only a strictly smaller distance replaces.
-fn nearer_item(distance: f64, old: f64, item: u32, was: u32) -> u32
-    ensures { result ≡ cond (lt distance old) item was }
+// Of two values, the one that a new distance leaves: only a strictly smaller distance replaces.
+fn nearer<T: Copy>(distance: f64, old: f64, new: T, was: T) -> T
+    ensures { result ≡ cond (lt distance old) new was }
 {
-    if distance < old { item } else { was }
-}
-
-fn nearer_distance(distance: f64, old: f64) -> f64
-    ensures { result ≡ cond (lt distance old) distance old }
-{
-    if distance < old { distance } else { old }
-}
-
-fn nearer(distance: f64, old: f64) -> u64
-    ensures { result ≡ cond (lt distance old) 1 0 }
-{
-    if distance < old { 1 } else { 0 }
+    if distance < old { new } else { was }
 }
 
 // The last axis of one right point against a left tile: how many answers it improves. Mostly none.
@@ -35,10 +23,8 @@ fn improving(sums: &[f64; 32], q: f64, column: &[f64], dists: &[f64]) -> u64
     ensures { result ≡ hits (closer (reached sums.now q column.now) dists.now) (length column.now) }
 {
     let mut n = 0;
-    let mut i = 0;
-    while i < column.len() {
-        n = n + nearer(sums[i] + metric::square(q, column[i]), dists[i]);
-        i += 1;
+    for (i, x) in column.iter().enumerate() {
+        n += nearer(sums[i] + metric::square(q, *x), dists[i], 1, 0);
     }
     n
 }
@@ -55,14 +41,12 @@ fn keep_nearer(
     requires { (length column.now ≤ 32) × (length items.old ≡ length column.now) × (length dists.old ≡ length column.now) }
     ensures { answers items.new dists.new ≡ offered (reached sums.now q column.now) item (answers items.old dists.old) }
 {
-    let mut i = 0;
-    while i < column.len() {
-        let distance = sums[i] + metric::square(q, column[i]);
+    for (i, x) in column.iter().enumerate() {
+        let distance = sums[i] + metric::square(q, *x);
         let old = dists[i];
         let was = items[i];
-        items[i] = nearer_item(distance, old, item, was);
-        dists[i] = nearer_distance(distance, old);
-        i += 1;
+        items[i] = nearer(distance, old, item, was);
+        dists[i] = nearer(distance, old, distance, old);
     }
 }
 
@@ -117,8 +101,7 @@ fn tile_nearest(
     ensures { answers items.new dists.new ≡ improved (join_of k litems.now lcoords.now ritems.now rcoords.now) la rs rend (answers items.old dists.old) }
 {
     let mut sums = [0.0; 32];
-    let mut q = rs;
-    while q < rend {
+    for q in rs..rend {
         point_nearest(
             k,
             litems,
@@ -132,7 +115,6 @@ fn tile_nearest(
             &mut *dists,
             &mut sums,
         );
-        q += 1;
     }
 }
 
@@ -155,6 +137,7 @@ pub fn update_leaf(
     ensures { answers items.new dists.new ≡ improved (join_of k litems.now lcoords.now ritems.now rcoords.now) ls rs rend (answers items.old dists.old) }
 {
     let mut la = ls;
+    // No index is counted: a tile begins where the one before it ended, and the last may be a short one.
     while la < lend {
         let le = cursor::tile_end(la, lend);
         let from = la - ls;

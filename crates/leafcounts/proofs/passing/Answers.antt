@@ -1,6 +1,6 @@
 -- The number so far is that of the places so far that pass. Assumes nothing.
 use mathlib.Core.Path.{◌≡◌, refl, ap, ◌∙◌}
-use Prim.Native.Nat.{ℕ, zero-le}
+use Prim.Native.Nat.{ℕ}
 use native.Mathlib.Omega.{arith}
 use lib.ListN.{get_or}
 use mathlib.Core.Bool.{Bool, cond}
@@ -13,7 +13,7 @@ use Rattle.leafcounts.proofs.passing.Goals as goal
 
 pub loop-j-init : goal.loop-j-init
 unfolding hits
-loop-j-init c = (zero-le, refl)
+loop-j-init c = refl
 
 pub overflow_add-n : goal.overflow_add-n
 overflow_add-n c =
@@ -29,4 +29,4 @@ loop-j-preserved c =
     passing (edge_of a.under) a.radius (reached a.sums.now a.q a.column.now) in
     let one : c.passes-n.result ≡ cond (test c.loop-j.j) 1 0 = let a = c.args in
     c.passes-n.ensures ∙ ap (λ (x : Float). cond (passes (edge_of a.under) a.radius (add binary64 (get_or a.sums.now c.loop-j.j nan) x)) 1 0) c.square.ensures in
-    (omega arith, hits_next _ _ c.loop-j.invariant.1 one)
+    hits_next _ _ c.loop-j.invariant one

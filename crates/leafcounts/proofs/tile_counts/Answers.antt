@@ -1,7 +1,7 @@
 -- What is counted and what the points from p on keep are together what the tile keeps. Assumes nothing.
 use mathlib.Core.Path.{◌≡◌}
 use Prim.Native.Nat.{suc, ◌+◌}
-use native.Mathlib.Nat.{le_refl, zero-add}
+use native.Mathlib.Nat.{zero-add}
 use native.Mathlib.Omega.{arith}
 use native.Mathlib.Numerals.{add-one}
 use lib.ListN.{length}
@@ -12,13 +12,13 @@ use Rattle.leaf.proofs.Tiled.{point_next}
 use Rattle.leafcounts.proofs.tile_counts.Goals as goal
 
 pub loop-p-init : goal.loop-p-init
-loop-p-init c = (le_refl _, c.requires.tile_pair.pair.left.rising, c.requires.tile_pair, fresh_row c.args.k, zero-add _, omega (arith, c.requires.countable))
+loop-p-init c = (c.requires.tile_pair, fresh_row c.args.k, zero-add _, omega (arith, c.requires.countable))
 
 pub loop-p-preserved : goal.loop-p-preserved
 loop-p-preserved c =
     let left : let a = c.args in let l = c.loop-p in let f = keeps a.k a.radius a.under a.litems.now a.lcoords.now a.ritems.now a.rcoords.now in l.n + c.point_count-n.result + length (of_tile_pair f (suc l.p) a.le a.ra a.re) ≡ length (of_tile_pair f a.la a.le a.ra a.re) = let a = c.args in
     let l = c.loop-p in
     let f = keeps a.k a.radius a.under a.litems.now a.lcoords.now a.ritems.now a.rcoords.now in
-    counted_next l.n _ (of_point f l.p a.ra a.re) (of_tile_pair f (suc l.p) a.le a.ra a.re) l.invariant.4 (point_next f l.p a.le a.ra a.re c.loop-p-test.true) c.point_count-n.ensures.value in
+    counted_next l.n _ (of_point f l.p a.ra a.re) (of_tile_pair f (suc l.p) a.le a.ra a.re) l.invariant.2 (point_next f l.p a.le a.ra a.re c.loop-p-test.true) c.point_count-n.ensures.value in
     let l = c.loop-p in
-    (omega arith, omega arith, l.invariant.2, c.point_count-n.ensures.fresh, rw (add-one l.p) left, l.invariant.5)
+    (l.invariant.0, c.point_count-n.ensures.fresh, rw (add-one l.p) left, l.invariant.3)

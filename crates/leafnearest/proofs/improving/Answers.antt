@@ -9,14 +9,14 @@ use Rattle.leafnearest.proofs.improving.Goals as goal
 
 pub loop-i-init : goal.loop-i-init
 unfolding hits
-loop-i-init c = (omega arith, c.requires.0, c.requires.1, refl)
+loop-i-init c = (c.requires.0, c.requires.1, refl)
 
 pub overflow_add-n : goal.overflow_add-n
 overflow_add-n c = let w = c.loop-i in
     let a = c.args in
     let test = closer (reached a.sums.now a.q a.column.now) a.dists.now in
-    omega (arith, hits_few test (w.i + 1), hits_next test w.i w.invariant.3 (rw c.square.ensures at c.nearer-n.ensures))
+    omega (arith, hits_few test (w.i + 1), hits_next test w.i w.invariant.2 (rw c.square.ensures at c.nearer-n.ensures))
 
 pub loop-i-preserved : goal.loop-i-preserved
 loop-i-preserved c = let w = c.loop-i in
-    (omega arith, w.invariant.1, w.invariant.2, hits_next _ w.i w.invariant.3 (rw c.square.ensures at c.nearer-n.ensures))
+    (w.invariant.0, w.invariant.1, hits_next _ w.i w.invariant.2 (rw c.square.ensures at c.nearer-n.ensures))

@@ -12,13 +12,13 @@ use Rattle.leafnearest.proofs.keep_nearer.Goals as goal
 pub loop-i-init : goal.loop-i-init
 unfolding changed_from
 loop-i-init c = let h = c.requires in
-    (omega arith, h.0, h.1, h.2, refl)
+    (h.0, h.1, h.2, refl)
 
 pub loop-i-preserved : goal.loop-i-preserved
 loop-i-preserved c = let w = c.loop-i in
     let a = c.args in
-    (omega arith, w.invariant.1, simp length-set w.invariant.2, simp length-set w.invariant.3, stored_next (reached a.sums.now a.q a.column.now) a.item w.items w.dists w.i (omega arith) (omega arith) (ap (add binary64 _) c.square.ensures) c.nearer_item.ensures c.nearer_distance.ensures ∙ w.invariant.4)
+    (w.invariant.0, simp length-set w.invariant.1, simp length-set w.invariant.2, stored_next (reached a.sums.now a.q a.column.now) a.item w.items w.dists w.i (omega arith) (omega arith) (ap (add binary64 _) c.square.ensures) c.nearer.ensures c.nearer-in-loop-i.ensures ∙ w.invariant.3)
 
 pub returns : goal.returns
 returns c = let w = c.loop-i in
-    sym (changed_all _ w.i w.i (answers w.items w.dists) (omega (arith, length_answers w.items w.dists (omega arith), c.loop-i-test.false))) ∙ w.invariant.4
+    sym (changed_all _ w.i w.i (answers w.items w.dists) (omega (arith, length_answers w.items w.dists (omega arith), c.loop-i-test.false))) ∙ w.invariant.3

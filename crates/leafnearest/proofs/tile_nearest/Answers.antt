@@ -11,16 +11,16 @@ use Rattle.leafnearest.proofs.tile_nearest.Goals as goal
 
 pub loop-q-init : goal.loop-q-init
 loop-q-init c = let h = c.requires in
-    (h.tile_pair, h.answering, omega arith, h.tile_pair.pair.left.rising, fresh_row _, refl)
+    (h.tile_pair, h.answering, fresh_row _, refl)
 
 pub loop-q-preserved : goal.loop-q-preserved
 loop-q-preserved c = let w = c.loop-q in
     let a = c.args in
     let p = c.point_nearest in
     let j = join_of a.k a.litems.now a.lcoords.now a.ritems.now a.rcoords.now in
-    (w.invariant.0, search rules, omega arith, omega arith, p.ensures.fresh, ap (improved j a.la (w.q + 1) a.rend) p.ensures.dists_after ∙ improved_next j a.la (answers w.items w.dists) w.q a.rend (omega (arith, c.loop-q-test.true)) ∙ w.invariant.5)
+    (w.invariant.0, search rules, p.ensures.fresh, ap (improved j a.la (w.q + 1) a.rend) p.ensures.dists_after ∙ improved_next j a.la (answers w.items w.dists) w.q a.rend (omega (arith, c.loop-q-test.true)) ∙ w.invariant.3)
 
 pub returns : goal.returns
 returns c = let w = c.loop-q in
     let a = c.args in
-    sym (improved_none (join_of a.k a.litems.now a.lcoords.now a.ritems.now a.rcoords.now) a.la (answers w.items w.dists) w.q a.rend (omega (arith, c.loop-q-test.false))) ∙ w.invariant.5
+    sym (improved_none (join_of a.k a.litems.now a.lcoords.now a.ritems.now a.rcoords.now) a.la (answers w.items w.dists) w.q a.rend (omega (arith, c.loop-q-test.false))) ∙ w.invariant.3
