@@ -20,6 +20,11 @@ found_of x = record { left = x.left; right = x.right; distance = x.distance }
 abbrev pub pairs_at : (distances : List Float) → (left : ℕ) → (ritems : List ℕ) → List ℕ → List Found
 pairs_at distances left ritems = map (λ j. record { left = left; right = get_or ritems j 0; distance = get_or distances j nan })
 
+-- these are the m places, `at i j` saying that the i-th is j
+pub record Placed (at : ℕ → ℕ → Type 0) (m : ℕ) (places : List ℕ) : Type 0 where
+  pub many : length places ≡ m
+  pub each : (i j : ℕ) → i < m → at i j → j ≡ get_or places i 0
+
 -- m places of a tile, which can be counted with those found before
 pub record Emits (places : List ℕ) (m : ℕ) (ritems : List ℕ) (found : ℕ) : Type 0 where
   pub many : length places ≡ m

@@ -1,9 +1,9 @@
 // A found pair, and the three buffers that are lent for pairs: the pairs of one left point stored as far as there is room.
 #![tactic(auto)]
 
-ghost use Rattle.std.specs.Prelude.{◌≡◌, suc, ◌-◌, ◌<◌, min, length, take};
+ghost use Rattle.std.specs.Prelude.{◌≡◌, List, ℕ, suc, ◌+◌, ◌-◌, ◌^◌, ◌≤◌, ◌<◌, min, length, take};
 ghost use Rattle.rooms.specs.Rooms.{filling, put, puts, SameRooms};
-ghost use Rattle.rooms.specs.Emitted.{found_of, places_below, pairs_at, Emits};
+ghost use Rattle.rooms.specs.Emitted.{found_of, places_below, pairs_at, Placed, Emits};
 
 // A found pair is two item numbers and one distance.
 #[derive(Clone, Copy)]
@@ -17,14 +17,7 @@ pub struct Pair {
 fn fitting(m: usize, found: u64, room: usize) -> usize
     ensures { result ≡ min m (room - found) }
 {
-    let at = found as usize;
-    if room <= at {
-        return 0;
-    }
-    if m < room - at {
-        return m;
-    }
-    room - at
+    m.min(room.saturating_sub(found as usize))
 }
 
 // The pair goes to the place `at`.
@@ -38,7 +31,39 @@ fn store(pair: Pair, at: usize, lout: &mut [u32], rout: &mut [u32], dout: &mut [
     dout[at] = pair.distance;
 }
 
-// The first m of the places, each with the left point's item: storing stops at the room, counting goes on.
+// m pairs, the place of the i-th being `place(i)`: storing stops at the room, counting goes on.
+fn emit_places<F: Fn(usize) -> usize>(
+    place: F,
+    dists: &[f64; 32],
+    m: usize,
+    left: u32,
+    ritems: &[u32],
+    found: u64,
+    lout: &mut [u32],
+    rout: &mut [u32],
+    dout: &mut [f64],
+) -> u64
+    requires callable { (i : ℕ) → i < m → F.pre place i }
+    requires in_tile { (i j : ℕ) → i < m → F.post place i j → j < length ritems.now }
+    requires few { (length ritems.now ≤ 32) × (found + m ≤ 2 ^ 63) }
+    requires same_rooms { SameRooms lout.old rout.old dout.old }
+    ensures { (places : List ℕ) → Placed (F.post place) m places → filling result lout.new rout.new dout.new ≡ puts (filling found lout.old rout.old dout.old) (pairs_at dists.now left ritems.now places) }
+{
+    let fit = fitting(m, found, lout.len());
+    let at = found as usize;
+    for i in 0..fit {
+        let j = place(i);
+        let pair = Pair {
+            left,
+            right: ritems[j],
+            distance: dists[j],
+        };
+        store(pair, at + i, &mut *lout, &mut *rout, &mut *dout);
+    }
+    found + m as u64
+}
+
+// The first m of the places, each with the left point's item.
 pub fn emit(
     dists: &[f64; 32],
     places: &[u32; 32],
@@ -54,22 +79,17 @@ pub fn emit(
     requires same_rooms { SameRooms lout.old rout.old dout.old }
     ensures { filling result lout.new rout.new dout.new ≡ puts (filling found lout.old rout.old dout.old) (pairs_at dists.now left ritems.now (take m places.now)) }
 {
-    let fit = fitting(m, found, lout.len());
-    let at = found as usize;
-    let mut i = 0;
-    while i < fit {
-        let j = places[i] as usize;
-        let right = ritems[j];
-        let distance = dists[j];
-        let pair = Pair {
-            left,
-            right,
-            distance,
-        };
-        store(pair, at + i, &mut *lout, &mut *rout, &mut *dout);
-        i += 1;
-    }
-    found + m as u64
+    emit_places(
+        |i| places[i] as usize,
+        dists,
+        m,
+        left,
+        ritems,
+        found,
+        lout,
+        rout,
+        dout,
+    )
 }
 
 // All places of the tile.
@@ -86,19 +106,15 @@ pub fn emit_all(
     requires same_rooms { SameRooms lout.old rout.old dout.old }
     ensures { filling result lout.new rout.new dout.new ≡ puts (filling found lout.old rout.old dout.old) (pairs_at dists.now left ritems.now (places_below (length ritems.now))) }
 {
-    let fit = fitting(ritems.len(), found, lout.len());
-    let at = found as usize;
-    let mut j = 0;
-    while j < fit {
-        let right = ritems[j];
-        let distance = dists[j];
-        let pair = Pair {
-            left,
-            right,
-            distance,
-        };
-        store(pair, at + j, &mut *lout, &mut *rout, &mut *dout);
-        j += 1;
-    }
-    found + ritems.len() as u64
+    emit_places(
+        |i| i,
+        dists,
+        ritems.len(),
+        left,
+        ritems,
+        found,
+        lout,
+        rout,
+        dout,
+    )
 }
