@@ -37,8 +37,7 @@ fn tile_pair(
     let mut dists = [0.0; 32];
     let mut places = [0; 32];
     let mut n = found;
-    let mut p = la;
-    while p < le {
+    for p in la..le {
         n = point_tile(
             k,
             radius,
@@ -58,7 +57,6 @@ fn tile_pair(
             &mut dists,
             &mut places,
         );
-        p += 1;
     }
     n
 }
@@ -88,6 +86,7 @@ fn tile_leaf(
 {
     let mut n = found;
     let mut ra = rs;
+    // No index is counted: a tile begins where the one before it ended, and the last may be a short one.
     while ra < rend {
         let re = cursor::tile_end(ra, rend);
         n = tile_pair(
@@ -124,6 +123,7 @@ pub fn leaf_pairs(
 {
     let mut n = found;
     let mut la = ls;
+    // As the right tiles, each from the end of the one before it.
     while la < lend {
         let le = cursor::tile_end(la, lend);
         n = tile_leaf(

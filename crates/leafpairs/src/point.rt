@@ -24,12 +24,10 @@ fn last_axis(
     ensures value { result ≡ hits (passing (edge_of under) radius (reached sums.now q column.now)) (length column.now) }
 {
     let mut n = 0;
-    let mut j = 0;
-    while j < column.len() {
-        let distance = sums[j] + metric::square(q, column[j]);
+    for (j, x) in column.iter().enumerate() {
+        let distance = sums[j] + metric::square(q, *x);
         dists[j] = distance;
-        n = n + passes(distance, radius, under);
-        j += 1;
+        n += passes(distance, radius, under);
     }
     n
 }
@@ -40,11 +38,9 @@ fn passing_places(dists: &[f64; 32], len: usize, radius: f64, under: bool, place
     ensures { take (hits (passing (edge_of under) radius (row dists.now)) len) places.new ≡ places_of (passing (edge_of under) radius (row dists.now)) len }
 {
     let mut n: usize = 0;
-    let mut j = 0;
-    while j < len {
+    for j in 0..len {
         places[n] = j as u32;
-        n = n + passes(dists[j], radius, under) as usize;
-        j += 1;
+        n += passes(dists[j], radius, under) as usize;
     }
 }
 

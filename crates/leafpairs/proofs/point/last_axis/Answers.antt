@@ -1,7 +1,7 @@
 -- The distances so far stand in their row, and so many of them pass. Assumes nothing.
 use mathlib.Core.Path.{◌≡◌, refl, ap, ◌∙◌}
 use mathlib.Core.Bool.{cond}
-use Prim.Native.Nat.{◌<◌, zero-le}
+use Prim.Native.Nat.{◌<◌}
 use native.Mathlib.Nat.{not-suc-le-zero}
 use native.Mathlib.Numerals.{add-one}
 use native.Mathlib.Omega.{arith}
@@ -17,14 +17,14 @@ use Rattle.leafpairs.proofs.point.last_axis.Goals as goal
 
 pub loop-j-init : goal.loop-j-init
 unfolding hits
-loop-j-init c = (c.requires.0, zero-le, c.requires.1, refl, (λ j l. absurd (not-suc-le-zero l)), refl)
+loop-j-init c = (c.requires.0, c.requires.1, (λ j l. absurd (not-suc-le-zero l)), refl)
 
 pub overflow_add-n : goal.overflow_add-n
 overflow_add-n c =
     let bit : let a = c.args in c.passes-n.result ≡ cond (passing (edge_of a.under) a.radius (reached a.sums.now a.q a.column.now) c.loop-j.j) 1 0 = let u = c.loop-j in
     let a = c.args in
     c.passes-n.ensures ∙ ap (λ (x : Float). cond (passes (edge_of a.under) a.radius (add binary64 (get_or a.sums.now u.j nan) x)) 1 0) c.square.ensures in
-    omega (arith, next_few _ c.loop-j.j c.loop-j.invariant.5 bit)
+    omega (arith, next_few _ c.loop-j.j c.loop-j.invariant.3 bit)
 
 pub loop-j-preserved : goal.loop-j-preserved
 loop-j-preserved c =
@@ -37,9 +37,7 @@ loop-j-preserved c =
     let inside : u.j < length u.dists = omega arith in
     let f = reached a.sums.now a.q a.column.now in (
       u.invariant.0,
-      omega arith,
-      simp length-set u.invariant.2,
-      simp length-set u.invariant.3,
-      rw (add-one u.j) (place_next u.dists u.j _ f inside u.invariant.4 (ap (add binary64 (get_or a.sums.now u.j nan)) square)),
-      hits_next (passing (edge_of a.under) a.radius f) u.j u.invariant.5 bit,
+      simp length-set u.invariant.1,
+      rw (add-one u.j) (place_next u.dists u.j _ f inside u.invariant.2 (ap (add binary64 (get_or a.sums.now u.j nan)) square)),
+      hits_next (passing (edge_of a.under) a.radius f) u.j u.invariant.3 bit,
     )

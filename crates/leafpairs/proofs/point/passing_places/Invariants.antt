@@ -1,6 +1,6 @@
 -- The first n of the row are the places so far that pass; what is written after them does not count. Assumes nothing.
 use mathlib.Core.Path.{◌≡◌}
-use Prim.Native.Nat.{◌-◌, ◌≤◌}
+use Prim.Native.Nat.{◌≤◌}
 use lib.ListN.{length, take}
 use Rattle.metric.specs.Edges.{edge_of}
 use Rattle.leaf.specs.Sums.{row, passing, hits}
@@ -8,7 +8,4 @@ use Rattle.rooms.specs.Emitted.{places_of}
 use Rattle.leafpairs.proofs.point.passing_places.Given as goal
 
 abbrev pub invariant-loop-j : goal.invariant-loop-j
-invariant-loop-j l = (l.len ≤ 32) × (l.j ≤ l.len) × (l.len ≤ length l.places) × (length l.places ≡ length l.initial.places) × (l.n ≡ hits (passing (edge_of l.under) l.radius (row l.dists)) l.j) × (take l.n l.places ≡ places_of (passing (edge_of l.under) l.radius (row l.dists)) l.j)
-
-abbrev pub decreases-loop-j : goal.decreases-loop-j
-decreases-loop-j l = l.len - l.j
+invariant-loop-j l = (l.len ≤ 32) × (l.len ≤ length l.places) × (l.n ≡ hits (passing (edge_of l.under) l.radius (row l.dists)) l.j) × (take l.n l.places ≡ places_of (passing (edge_of l.under) l.radius (row l.dists)) l.j)
