@@ -1,6 +1,6 @@
 -- What the join keeps of a point against a tile, of two tiles, of a tile against a leaf, and of two leaves (document 01: left tiles, within each the right tiles, then left points, then right points). Assumes nothing.
 use Rattle.written.specs.Boxes.{Edge}
-use Rattle.std.specs.Prelude.{List, Bool, ℕ, ◌+◌, ◌-◌, ◌^◌, ◌≤◌, length, Float}
+use Rattle.std.specs.Prelude.{List, ℕ, ◌+◌, ◌-◌, ◌^◌, ◌≤◌, length, Float}
 use Rattle.written.specs.Places.{over, cross}
 use Rattle.written.specs.Tiles.{tiles, each, by_tiles}
 use Rattle.written.specs.RadiusWalk.{Found, keep}

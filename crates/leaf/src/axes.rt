@@ -4,6 +4,8 @@ ghost use Rattle.std.specs.Float.{nan};
 ghost use Rattle.rounding.specs.Distance.{zero₊};
 ghost use Rattle.leaf.specs.Sums.{Holds, grown, sum_to, Fresh, PointTile};
 
+use cursor::Tree;
+
 // One axis more of the distances: where it is the FIRST, the sums begin at 0. The row comes as a slice, since lending the array as one tells the proof how long it is.
 fn add_axis<const FIRST: bool>(sums: &mut [f64], q: f64, column: &[f64])
     requires { length column.now ≤ length sums.old }
@@ -15,28 +17,26 @@ fn add_axis<const FIRST: bool>(sums: &mut [f64], q: f64, column: &[f64])
     }
 }
 
-// All axes but the last, of the place p against the places from `a` up to `e`. With one axis nothing is to be done: the sums are 0, and are never cleared for a point.
+// All axes but the last, of the place p of one tree against the places from `a` up to `e` of the other. With one axis nothing is to be done: the sums are 0, and are never cleared for a point.
 pub fn first_axes(
     sums: &mut [f64; 32],
     k: usize,
-    pcoords: &[f64],
-    pn: usize,
+    one: &Tree,
     p: usize,
-    coords: &[f64],
-    n: usize,
+    many: &Tree,
     a: usize,
     e: usize,
 )
-    requires { PointTile k sums.old pcoords.now pn p coords.now n a e }
-    ensures holds { Holds sums.new (e - a) (sum_to pcoords.now pn p coords.now n a (k - 1)) }
+    requires { PointTile k sums.old one.now.coords.now (length one.now.items.now) p many.now.coords.now (length many.now.items.now) a e }
+    ensures holds { Holds sums.new (e - a) (sum_to one.now.coords.now (length one.now.items.now) p many.now.coords.now (length many.now.items.now) a (k - 1)) }
     ensures fresh { Fresh k sums.new }
 {
     if k == 1 {
         return;
     }
-    add_axis::<true>(sums, pcoords[p], cursor::tile(coords, n, 0, a, e));
+    add_axis::<true>(sums, one.coords[p], many.tile(0, a, e));
     for d in 1..k - 1 {
-        let at = d * pn + p;
-        add_axis::<false>(sums, pcoords[at], cursor::tile(coords, n, d, a, e));
+        let at = d * one.items.len() + p;
+        add_axis::<false>(sums, one.coords[at], many.tile(d, a, e));
     }
 }

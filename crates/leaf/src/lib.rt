@@ -5,11 +5,13 @@ ghost use Rattle.std.specs.Prelude.{◌≡◌, cond};
 ghost use Rattle.written.specs.Boxes.{passes as passes_radius};
 ghost use Rattle.metric.specs.Edges.{edge_of};
 
+use metric::Within;
+
 pub mod axes;
 
 // 1 where the distance passes, else 0: a number, so that the loops have no branch.
-pub fn passes(distance: f64, radius: f64, under: bool) -> u64
-    ensures { result ≡ cond (passes_radius (edge_of under) radius distance) 1 0 }
+pub fn passes(distance: f64, within: Within) -> u64
+    ensures { result ≡ cond (passes_radius (edge_of within.edge) within.radius distance) 1 0 }
 {
-    u64::from(metric::accepts(distance, radius, under))
+    u64::from(within.accepts(distance))
 }

@@ -7,107 +7,77 @@ ghost use Rattle.leaf.specs.Lent.{LeafPair, TilePair};
 ghost use Rattle.leaf.specs.Sums.{Fresh, PointTile, reached, passing as passing_of, hits};
 ghost use Rattle.leaf.specs.Kept.{keeps, of_point, of_tile_pair, of_tile_leaf, of_leaves, Countable};
 
+use cursor::Trees;
 use leaf::axes::first_axes;
 use leaf::passes;
+use metric::Within;
 
 // The last axis, and how many pass.
-fn passing(sums: &[f64; 32], q: f64, column: &[f64], radius: f64, under: bool) -> u64
+fn passing(sums: &[f64; 32], q: f64, column: &[f64], within: Within) -> u64
     requires { length column.now ≤ 32 }
-    ensures { result ≡ hits (passing_of (edge_of under) radius (reached sums.now q column.now)) (length column.now) }
+    ensures { result ≡ hits (passing_of (edge_of within.edge) within.radius (reached sums.now q column.now)) (length column.now) }
 {
     let mut n = 0;
     for (j, x) in column.iter().enumerate() {
-        n += passes(sums[j] + metric::square(q, *x), radius, under);
+        n += passes(sums[j] + metric::square(q, *x), within);
     }
     n
 }
 
 // A left point against a right tile. The sums are lent, so that they are made once for many points.
 fn point_count(
-    k: usize,
-    radius: f64,
-    under: bool,
-    litems: &[u32],
-    lcoords: &[f64],
+    trees: &Trees,
+    within: Within,
     p: usize,
-    ritems: &[u32],
-    rcoords: &[f64],
     ra: usize,
     re: usize,
     sums: &mut [f64; 32],
 ) -> u64
-    requires { PointTile k sums.old lcoords.now (length litems.now) p rcoords.now (length ritems.now) ra re }
-    ensures value { result ≡ length (of_point (keeps k radius under litems.now lcoords.now ritems.now rcoords.now) p ra re) }
-    ensures fresh { Fresh k sums.new }
+    requires { PointTile trees.now.k sums.old trees.now.left.coords.now (length trees.now.left.items.now) p trees.now.right.coords.now (length trees.now.right.items.now) ra re }
+    ensures value { result ≡ length (of_point (keeps trees.now.k within.radius (edge_of within.edge) trees.now.left.items.now trees.now.left.coords.now trees.now.right.items.now trees.now.right.coords.now) p ra re) }
+    ensures fresh { Fresh trees.now.k sums.new }
 {
-    let ln = litems.len();
-    let rn = ritems.len();
-    first_axes(&mut *sums, k, lcoords, ln, p, rcoords, rn, ra, re);
-    let last = k - 1;
-    let at = last * ln + p;
-    passing(
-        &*sums,
-        lcoords[at],
-        cursor::tile(rcoords, rn, last, ra, re),
-        radius,
-        under,
-    )
+    let left = &trees.left;
+    let right = &trees.right;
+    first_axes(&mut *sums, trees.k, left, p, right, ra, re);
+    let last = trees.k - 1;
+    let at = last * left.items.len() + p;
+    passing(&*sums, left.coords[at], right.tile(last, ra, re), within)
 }
 
 // A left tile against a right tile.
-fn tile_counts(
-    k: usize,
-    radius: f64,
-    under: bool,
-    litems: &[u32],
-    lcoords: &[f64],
-    la: usize,
-    le: usize,
-    ritems: &[u32],
-    rcoords: &[f64],
-    ra: usize,
-    re: usize,
-) -> u64
-    requires tile_pair { TilePair k litems.now lcoords.now la le ritems.now rcoords.now ra re }
-    requires countable { Countable 0 (of_tile_pair (keeps k radius under litems.now lcoords.now ritems.now rcoords.now) la le ra re) }
-    ensures { result ≡ length (of_tile_pair (keeps k radius under litems.now lcoords.now ritems.now rcoords.now) la le ra re) }
+fn tile_counts(trees: &Trees, within: Within, la: usize, le: usize, ra: usize, re: usize) -> u64
+    requires tile_pair { TilePair trees.now.k trees.now.left.items.now trees.now.left.coords.now la le trees.now.right.items.now trees.now.right.coords.now ra re }
+    requires countable { Countable 0 (of_tile_pair (keeps trees.now.k within.radius (edge_of within.edge) trees.now.left.items.now trees.now.left.coords.now trees.now.right.items.now trees.now.right.coords.now) la le ra re) }
+    ensures { result ≡ length (of_tile_pair (keeps trees.now.k within.radius (edge_of within.edge) trees.now.left.items.now trees.now.left.coords.now trees.now.right.items.now trees.now.right.coords.now) la le ra re) }
 {
     let mut sums = [0.0; 32];
     let mut n = 0;
     for p in la..le {
-        n += point_count(
-            k, radius, under, litems, lcoords, p, ritems, rcoords, ra, re, &mut sums,
-        );
+        n += point_count(trees, within, p, ra, re, &mut sums);
     }
     n
 }
 
 // A left tile against the right tiles.
 fn tile_leaf_counts(
-    k: usize,
-    radius: f64,
-    under: bool,
-    litems: &[u32],
-    lcoords: &[f64],
+    trees: &Trees,
+    within: Within,
     la: usize,
     le: usize,
-    ritems: &[u32],
-    rcoords: &[f64],
     rs: usize,
     rend: usize,
 ) -> u64
-    requires leaf_pair { LeafPair k litems.now lcoords.now la le ritems.now rcoords.now rs rend }
-    requires countable { Countable 0 (of_tile_leaf (keeps k radius under litems.now lcoords.now ritems.now rcoords.now) la le rs rend) }
-    ensures { result ≡ length (of_tile_leaf (keeps k radius under litems.now lcoords.now ritems.now rcoords.now) la le rs rend) }
+    requires leaf_pair { LeafPair trees.now.k trees.now.left.items.now trees.now.left.coords.now la le trees.now.right.items.now trees.now.right.coords.now rs rend }
+    requires countable { Countable 0 (of_tile_leaf (keeps trees.now.k within.radius (edge_of within.edge) trees.now.left.items.now trees.now.left.coords.now trees.now.right.items.now trees.now.right.coords.now) la le rs rend) }
+    ensures { result ≡ length (of_tile_leaf (keeps trees.now.k within.radius (edge_of within.edge) trees.now.left.items.now trees.now.left.coords.now trees.now.right.items.now trees.now.right.coords.now) la le rs rend) }
 {
     let mut n = 0;
     let mut ra = rs;
     // No index is counted: a tile begins where the one before it ended, and the last may be a short one.
     while ra < rend {
         let re = cursor::tile_end(ra, rend);
-        n += tile_counts(
-            k, radius, under, litems, lcoords, la, le, ritems, rcoords, ra, re,
-        );
+        n += tile_counts(trees, within, la, le, ra, re);
         ra = re;
     }
     n
@@ -115,29 +85,22 @@ fn tile_leaf_counts(
 
 // Two leaves: the left places from ls up to lend, the right ones from rs up to rend.
 pub fn leaf_counts(
-    k: usize,
-    radius: f64,
-    under: bool,
-    litems: &[u32],
-    lcoords: &[f64],
+    trees: &Trees,
+    within: Within,
     ls: usize,
     lend: usize,
-    ritems: &[u32],
-    rcoords: &[f64],
     rs: usize,
     rend: usize,
 ) -> u64
-    requires { LeafPair k litems.now lcoords.now ls lend ritems.now rcoords.now rs rend }
-    ensures { result ≡ length (of_leaves (keeps k radius under litems.now lcoords.now ritems.now rcoords.now) ls lend rs rend) }
+    requires { LeafPair trees.now.k trees.now.left.items.now trees.now.left.coords.now ls lend trees.now.right.items.now trees.now.right.coords.now rs rend }
+    ensures { result ≡ length (of_leaves (keeps trees.now.k within.radius (edge_of within.edge) trees.now.left.items.now trees.now.left.coords.now trees.now.right.items.now trees.now.right.coords.now) ls lend rs rend) }
 {
     let mut n = 0;
     let mut la = ls;
     // As the right tiles, each from the end of the one before it.
     while la < lend {
         let le = cursor::tile_end(la, lend);
-        n += tile_leaf_counts(
-            k, radius, under, litems, lcoords, la, le, ritems, rcoords, rs, rend,
-        );
+        n += tile_leaf_counts(trees, within, la, le, rs, rend);
         la = le;
     }
     n

@@ -8,6 +8,7 @@ ghost use Rattle.leaf.specs.Lent.{join_of, LeafPair, TilePair};
 ghost use Rattle.leaf.specs.Sums.{Fresh, PointTile, reached, hits};
 ghost use Rattle.leafnearest.specs.Answers.{answers, closer, offered, improved, Answering};
 
+use cursor::Trees;
 use leaf::axes::first_axes;
 
 // Of two values, the one that a new distance leaves: only a strictly smaller distance replaces.
@@ -52,89 +53,64 @@ fn keep_nearer(
 
 // One right point, the place q, against a left tile.
 fn point_nearest(
-    k: usize,
-    litems: &[u32],
-    lcoords: &[f64],
+    trees: &Trees,
     la: usize,
     le: usize,
-    ritems: &[u32],
-    rcoords: &[f64],
     q: usize,
     items: &mut [u32],
     dists: &mut [f64],
     sums: &mut [f64; 32],
 )
-    requires point_tile { PointTile k sums.old rcoords.now (length ritems.now) q lcoords.now (length litems.now) la le }
+    requires point_tile { PointTile trees.now.k sums.old trees.now.right.coords.now (length trees.now.right.items.now) q trees.now.left.coords.now (length trees.now.left.items.now) la le }
     requires answering { Answering la le items.old dists.old }
-    ensures dists_after { answers items.new dists.new ≡ improved (join_of k litems.now lcoords.now ritems.now rcoords.now) la q (suc q) (answers items.old dists.old) }
-    ensures fresh { Fresh k sums.new }
+    ensures dists_after { answers items.new dists.new ≡ improved (join_of trees.now.k trees.now.left.items.now trees.now.left.coords.now trees.now.right.items.now trees.now.right.coords.now) la q (suc q) (answers items.old dists.old) }
+    ensures fresh { Fresh trees.now.k sums.new }
 {
-    let ln = litems.len();
-    let rn = ritems.len();
-    first_axes(&mut *sums, k, rcoords, rn, q, lcoords, ln, la, le);
-    let last = k - 1;
-    let at = last * rn + q;
-    let x = rcoords[at];
-    let column = cursor::tile(lcoords, ln, last, la, le);
+    let left = &trees.left;
+    let right = &trees.right;
+    first_axes(&mut *sums, trees.k, right, q, left, la, le);
+    let last = trees.k - 1;
+    let x = right.coords[last * right.items.len() + q];
+    let column = left.tile(last, la, le);
     if improving(&*sums, x, column, &*dists) == 0 {
         return;
     }
-    keep_nearer(&*sums, x, column, ritems[q], &mut *items, &mut *dists);
+    keep_nearer(&*sums, x, column, right.items[q], &mut *items, &mut *dists);
 }
 
 // The right places from rs up to rend against a left tile, whose answers are lent.
 fn tile_nearest(
-    k: usize,
-    litems: &[u32],
-    lcoords: &[f64],
+    trees: &Trees,
     la: usize,
     le: usize,
-    ritems: &[u32],
-    rcoords: &[f64],
     rs: usize,
     rend: usize,
     items: &mut [u32],
     dists: &mut [f64],
 )
-    requires tile_pair { TilePair k ritems.now rcoords.now rs rend litems.now lcoords.now la le }
+    requires tile_pair { TilePair trees.now.k trees.now.right.items.now trees.now.right.coords.now rs rend trees.now.left.items.now trees.now.left.coords.now la le }
     requires answering { Answering la le items.old dists.old }
-    ensures { answers items.new dists.new ≡ improved (join_of k litems.now lcoords.now ritems.now rcoords.now) la rs rend (answers items.old dists.old) }
+    ensures { answers items.new dists.new ≡ improved (join_of trees.now.k trees.now.left.items.now trees.now.left.coords.now trees.now.right.items.now trees.now.right.coords.now) la rs rend (answers items.old dists.old) }
 {
     let mut sums = [0.0; 32];
     for q in rs..rend {
-        point_nearest(
-            k,
-            litems,
-            lcoords,
-            la,
-            le,
-            ritems,
-            rcoords,
-            q,
-            &mut *items,
-            &mut *dists,
-            &mut sums,
-        );
+        point_nearest(trees, la, le, q, &mut *items, &mut *dists, &mut sums);
     }
 }
 
 // Two leaves. What is lent of the answers is the left leaf's own stretch, from ls up to lend: nothing else can change.
 pub fn update_leaf(
-    k: usize,
-    litems: &[u32],
-    lcoords: &[f64],
+    trees: &Trees,
     ls: usize,
     lend: usize,
-    ritems: &[u32],
-    rcoords: &[f64],
     rs: usize,
     rend: usize,
     items: &mut [u32],
     dists: &mut [f64],
 )
-    requires leaf_pair { LeafPair k litems.now lcoords.now ls lend ritems.now rcoords.now rs rend }
+    requires leaf_pair { LeafPair trees.now.k trees.now.left.items.now trees.now.left.coords.now ls lend trees.now.right.items.now trees.now.right.coords.now rs rend }
     requires answering { Answering ls lend items.old dists.old }
-    ensures { answers items.new dists.new ≡ improved (join_of k litems.now lcoords.now ritems.now rcoords.now) ls rs rend (answers items.old dists.old) }
+    ensures { answers items.new dists.new ≡ improved (join_of trees.now.k trees.now.left.items.now trees.now.left.coords.now trees.now.right.items.now trees.now.right.coords.now) ls rs rend (answers items.old dists.old) }
 {
     let mut la = ls;
     // No index is counted: a tile begins where the one before it ended, and the last may be a short one.
@@ -143,13 +119,9 @@ pub fn update_leaf(
         let from = la - ls;
         let to = le - ls;
         tile_nearest(
-            k,
-            litems,
-            lcoords,
+            trees,
             la,
             le,
-            ritems,
-            rcoords,
             rs,
             rend,
             &mut items[from..to],

@@ -8,7 +8,6 @@ use lib.ListN.{length, get_or, take, drop, length-map, length-drop}
 use lib.Seq.{length-take-le}
 use lib.Ieee.{Float, nan}
 use Rattle.written.specs.Boxes.{Edge, passes}
-use Rattle.metric.specs.Edges.{edge_of}
 use Rattle.cursor.specs.Tiles.{tile-read}
 use Rattle.leaf.specs.Sums.{Holds, sum_to, row, reached, passing, hits}
 use Rattle.leaf.specs.Kept.{keeps, of_point, Countable}
@@ -39,25 +38,25 @@ module _ (K : ℕ) (litems : List ℕ) (lcoords : List Float) (p : ℕ) (ritems 
       → Holds dists m (to_tile K)
   measured m sums dists column some held lent many last j h = last j (omega arith) ∙ last_axis lcoords (length litems) p rcoords (length ritems) ra K m sums column some held lent j h
 
-  module _ (radius : Float) (under : Bool) (re : ℕ) (dists : List Float) (held : Holds dists (re - ra) (to_tile K)) where
+  module _ (radius : Float) (edge : Edge) (re : ℕ) (dists : List Float) (held : Holds dists (re - ra) (to_tile K)) where
     abbrev pub tested : ℕ → Bool
-    tested = passing (edge_of under) radius (row dists)
+    tested = passing edge radius (row dists)
 
     -- what is kept, by the places that pass
-    pub point_pairs : of_point (keeps K radius under litems lcoords ritems rcoords) p ra re ≡ pairs_at dists (get_or litems p 0) (take (re - ra) (drop ra ritems)) (places_of tested (re - ra))
-    point_pairs = over_places (keeps K radius under litems lcoords ritems rcoords p) (λ j. record { left = get_or litems p 0; right = get_or (take (re - ra) (drop ra ritems)) j 0; distance = get_or dists j nan }) tested ra (re - ra) (λ j h.
-        keeps_is K radius under litems lcoords ritems rcoords p (ra + j)
-        ∙ rw (tile-read 0 ritems ra (re - ra) j h, held j h, ← distance_is K radius under litems lcoords ritems rcoords p ra j) refl)
+    pub point_pairs : of_point (keeps K radius edge litems lcoords ritems rcoords) p ra re ≡ pairs_at dists (get_or litems p 0) (take (re - ra) (drop ra ritems)) (places_of tested (re - ra))
+    point_pairs = over_places (keeps K radius edge litems lcoords ritems rcoords p) (λ j. record { left = get_or litems p 0; right = get_or (take (re - ra) (drop ra ritems)) j 0; distance = get_or dists j nan }) tested ra (re - ra) (λ j h.
+        keeps_is K radius edge litems lcoords ritems rcoords p (ra + j)
+        ∙ rw (tile-read 0 ritems ra (re - ra) j h, held j h, ← distance_is K radius edge litems lcoords ritems rcoords p ra j) refl)
 
     -- the same for a list of these places: none, all, or those found
-    pub point_puts : (s : Filling) (l : List ℕ) → l ≡ places_of tested (re - ra) → puts s (pairs_at dists (get_or litems p 0) (take (re - ra) (drop ra ritems)) l) ≡ puts s (of_point (keeps K radius under litems lcoords ritems rcoords) p ra re)
+    pub point_puts : (s : Filling) (l : List ℕ) → l ≡ places_of tested (re - ra) → puts s (pairs_at dists (get_or litems p 0) (take (re - ra) (drop ra ritems)) l) ≡ puts s (of_point (keeps K radius edge litems lcoords ritems rcoords) p ra re)
     point_puts s l e = ap (puts s) (ap (pairs_at dists (get_or litems p 0) (take (re - ra) (drop ra ritems))) e ∙ sym point_pairs)
 
     -- and they can be counted
-    pub point_emits : (found m : ℕ) (l part : List ℕ) → l ≡ places_of tested (re - ra) → m ≡ hits tested (re - ra) → length part ≡ re - ra → re - ra ≤ 32 → Countable found (of_point (keeps K radius under litems lcoords ritems rcoords) p ra re) → Emits l m part found
+    pub point_emits : (found m : ℕ) (l part : List ℕ) → l ≡ places_of tested (re - ra) → m ≡ hits tested (re - ra) → length part ≡ re - ra → re - ra ≤ 32 → Countable found (of_point (keeps K radius edge litems lcoords ritems rcoords) p ra re) → Emits l m part found
     point_emits found m l part e many size few count =
         let all : length (places_of tested (re - ra)) ≡ hits tested (re - ra) = places_many tested (re - ra) in
-        let kept : length (of_point (keeps K radius under litems lcoords ritems rcoords) p ra re) ≡ length (places_of tested (re - ra)) = ap length point_pairs ∙ length-map (places_of tested (re - ra)) _ in
+        let kept : length (of_point (keeps K radius edge litems lcoords ritems rcoords) p ra re) ≡ length (places_of tested (re - ra)) = ap length point_pairs ∙ length-map (places_of tested (re - ra)) _ in
         rw e
         (record {
           many = omega arith;

@@ -2,6 +2,7 @@
 #![tactic(auto)]
 
 ghost use Rattle.std.specs.Prelude.{◌≡◌};
+ghost use Rattle.metric.specs.Edges.{edge_of};
 ghost use Rattle.leaf.specs.Lent.{LeafPair, TilePair};
 ghost use Rattle.leaf.specs.Kept.{keeps, of_tile_pair, of_tile_leaf, of_leaves, Countable};
 ghost use Rattle.rooms.specs.Rooms.{filling, puts, SameRooms};
@@ -9,18 +10,15 @@ ghost use Rattle.rooms.specs.Rooms.{filling, puts, SameRooms};
 mod point;
 
 use crate::point::point_tile;
+use cursor::Trees;
+use metric::Within;
 
 // A left tile against a right tile.
 fn tile_pair(
-    k: usize,
-    radius: f64,
-    under: bool,
-    litems: &[u32],
-    lcoords: &[f64],
+    trees: &Trees,
+    within: Within,
     la: usize,
     le: usize,
-    ritems: &[u32],
-    rcoords: &[f64],
     ra: usize,
     re: usize,
     found: u64,
@@ -28,10 +26,10 @@ fn tile_pair(
     rout: &mut [u32],
     dout: &mut [f64],
 ) -> u64
-    requires tile_pair { TilePair k litems.now lcoords.now la le ritems.now rcoords.now ra re }
+    requires tile_pair { TilePair trees.now.k trees.now.left.items.now trees.now.left.coords.now la le trees.now.right.items.now trees.now.right.coords.now ra re }
     requires same_rooms { SameRooms lout.old rout.old dout.old }
-    requires countable { Countable found (of_tile_pair (keeps k radius under litems.now lcoords.now ritems.now rcoords.now) la le ra re) }
-    ensures { filling result lout.new rout.new dout.new ≡ puts (filling found lout.old rout.old dout.old) (of_tile_pair (keeps k radius under litems.now lcoords.now ritems.now rcoords.now) la le ra re) }
+    requires countable { Countable found (of_tile_pair (keeps trees.now.k within.radius (edge_of within.edge) trees.now.left.items.now trees.now.left.coords.now trees.now.right.items.now trees.now.right.coords.now) la le ra re) }
+    ensures { filling result lout.new rout.new dout.new ≡ puts (filling found lout.old rout.old dout.old) (of_tile_pair (keeps trees.now.k within.radius (edge_of within.edge) trees.now.left.items.now trees.now.left.coords.now trees.now.right.items.now trees.now.right.coords.now) la le ra re) }
 {
     let mut sums = [0.0; 32];
     let mut dists = [0.0; 32];
@@ -39,14 +37,9 @@ fn tile_pair(
     let mut n = found;
     for p in la..le {
         n = point_tile(
-            k,
-            radius,
-            under,
-            litems,
-            lcoords,
+            trees,
+            within,
             p,
-            ritems,
-            rcoords,
             ra,
             re,
             n,
@@ -63,15 +56,10 @@ fn tile_pair(
 
 // A left tile against the tiles of a right leaf.
 fn tile_leaf(
-    k: usize,
-    radius: f64,
-    under: bool,
-    litems: &[u32],
-    lcoords: &[f64],
+    trees: &Trees,
+    within: Within,
     la: usize,
     le: usize,
-    ritems: &[u32],
-    rcoords: &[f64],
     rs: usize,
     rend: usize,
     found: u64,
@@ -79,10 +67,10 @@ fn tile_leaf(
     rout: &mut [u32],
     dout: &mut [f64],
 ) -> u64
-    requires leaf_pair { LeafPair k litems.now lcoords.now la le ritems.now rcoords.now rs rend }
+    requires leaf_pair { LeafPair trees.now.k trees.now.left.items.now trees.now.left.coords.now la le trees.now.right.items.now trees.now.right.coords.now rs rend }
     requires same_rooms { SameRooms lout.old rout.old dout.old }
-    requires countable { Countable found (of_tile_leaf (keeps k radius under litems.now lcoords.now ritems.now rcoords.now) la le rs rend) }
-    ensures { filling result lout.new rout.new dout.new ≡ puts (filling found lout.old rout.old dout.old) (of_tile_leaf (keeps k radius under litems.now lcoords.now ritems.now rcoords.now) la le rs rend) }
+    requires countable { Countable found (of_tile_leaf (keeps trees.now.k within.radius (edge_of within.edge) trees.now.left.items.now trees.now.left.coords.now trees.now.right.items.now trees.now.right.coords.now) la le rs rend) }
+    ensures { filling result lout.new rout.new dout.new ≡ puts (filling found lout.old rout.old dout.old) (of_tile_leaf (keeps trees.now.k within.radius (edge_of within.edge) trees.now.left.items.now trees.now.left.coords.now trees.now.right.items.now trees.now.right.coords.now) la le rs rend) }
 {
     let mut n = found;
     let mut ra = rs;
@@ -90,8 +78,7 @@ fn tile_leaf(
     while ra < rend {
         let re = cursor::tile_end(ra, rend);
         n = tile_pair(
-            k, radius, under, litems, lcoords, la, le, ritems, rcoords, ra, re, n, &mut *lout,
-            &mut *rout, &mut *dout,
+            trees, within, la, le, ra, re, n, &mut *lout, &mut *rout, &mut *dout,
         );
         ra = re;
     }
@@ -100,15 +87,10 @@ fn tile_leaf(
 
 // Two leaves: the left places from ls up to lend, the right ones from rs up to rend. `found` were found before; the answer counts them too.
 pub fn leaf_pairs(
-    k: usize,
-    radius: f64,
-    under: bool,
-    litems: &[u32],
-    lcoords: &[f64],
+    trees: &Trees,
+    within: Within,
     ls: usize,
     lend: usize,
-    ritems: &[u32],
-    rcoords: &[f64],
     rs: usize,
     rend: usize,
     found: u64,
@@ -116,10 +98,10 @@ pub fn leaf_pairs(
     rout: &mut [u32],
     dout: &mut [f64],
 ) -> u64
-    requires leaf_pair { LeafPair k litems.now lcoords.now ls lend ritems.now rcoords.now rs rend }
+    requires leaf_pair { LeafPair trees.now.k trees.now.left.items.now trees.now.left.coords.now ls lend trees.now.right.items.now trees.now.right.coords.now rs rend }
     requires same_rooms { SameRooms lout.old rout.old dout.old }
-    requires countable { Countable found (of_leaves (keeps k radius under litems.now lcoords.now ritems.now rcoords.now) ls lend rs rend) }
-    ensures { filling result lout.new rout.new dout.new ≡ puts (filling found lout.old rout.old dout.old) (of_leaves (keeps k radius under litems.now lcoords.now ritems.now rcoords.now) ls lend rs rend) }
+    requires countable { Countable found (of_leaves (keeps trees.now.k within.radius (edge_of within.edge) trees.now.left.items.now trees.now.left.coords.now trees.now.right.items.now trees.now.right.coords.now) ls lend rs rend) }
+    ensures { filling result lout.new rout.new dout.new ≡ puts (filling found lout.old rout.old dout.old) (of_leaves (keeps trees.now.k within.radius (edge_of within.edge) trees.now.left.items.now trees.now.left.coords.now trees.now.right.items.now trees.now.right.coords.now) ls lend rs rend) }
 {
     let mut n = found;
     let mut la = ls;
@@ -127,8 +109,7 @@ pub fn leaf_pairs(
     while la < lend {
         let le = cursor::tile_end(la, lend);
         n = tile_leaf(
-            k, radius, under, litems, lcoords, la, le, ritems, rcoords, rs, rend, n, &mut *lout,
-            &mut *rout, &mut *dout,
+            trees, within, la, le, rs, rend, n, &mut *lout, &mut *rout, &mut *dout,
         );
         la = le;
     }

@@ -1,4 +1,5 @@
 -- What is counted and what the left tiles from la on keep are together what the two leaves keep. Assumes nothing.
+use Rattle.metric.specs.Edges.{edge_of}
 use mathlib.Core.Path.{◌≡◌, sym, ap, ◌∙◌, subst}
 use mathlib.Core.List.{List, ◌++◌}
 use Prim.Native.Nat.{ℕ, ◌+◌, ◌-◌, min}
@@ -14,11 +15,11 @@ use Rattle.leaf.proofs.Tiled.{leaf_next, leaf_done}
 use Rattle.leafcounts.proofs.leaf_counts.Goals as goal
 
 pub loop-la-init : goal.loop-la-init
-loop-la-init c = (le_refl _, c.requires.left.rising, c.requires, zero-add _, leaf_fits c.args.radius c.args.under c.requires)
+loop-la-init c = (le_refl _, c.requires.left.rising, c.requires, zero-add _, leaf_fits c.args.within.radius (edge_of c.args.within.edge) c.requires)
 
 pub tile_leaf_counts-n-requires : goal.tile_leaf_counts-n-requires
 tile_leaf_counts-n-requires c =
-    let kept : ℕ → ℕ → List Found = let a = c.args in keeps a.k a.radius a.under a.litems.now a.lcoords.now a.ritems.now a.rcoords.now in
+    let kept : ℕ → ℕ → List Found = let a = c.args in keeps a.trees.now.k a.within.radius (edge_of a.within.edge) a.trees.now.left.items.now a.trees.now.left.coords.now a.trees.now.right.items.now a.trees.now.right.coords.now in
     let first : let a = c.args in let f = kept in let la = c.loop-la.la in of_leaves f la a.lend a.rs a.rend ≡ of_tile_leaf f la c.tile_end-le.result a.rs a.rend ++ of_leaves f c.tile_end-le.result a.lend a.rs a.rend = let a = c.args in
     let f = kept in
     let la = c.loop-la.la in
@@ -33,7 +34,7 @@ tile_leaf_counts-n-requires c =
 
 pub overflow_add-n : goal.overflow_add-n
 overflow_add-n c =
-    let kept : ℕ → ℕ → List Found = let a = c.args in keeps a.k a.radius a.under a.litems.now a.lcoords.now a.ritems.now a.rcoords.now in
+    let kept : ℕ → ℕ → List Found = let a = c.args in keeps a.trees.now.k a.within.radius (edge_of a.within.edge) a.trees.now.left.items.now a.trees.now.left.coords.now a.trees.now.right.items.now a.trees.now.right.coords.now in
     let first : let a = c.args in let f = kept in let la = c.loop-la.la in of_leaves f la a.lend a.rs a.rend ≡ of_tile_leaf f la c.tile_end-le.result a.rs a.rend ++ of_leaves f c.tile_end-le.result a.lend a.rs a.rend = let a = c.args in
     let f = kept in
     let la = c.loop-la.la in
@@ -47,7 +48,7 @@ overflow_add-n c =
 
 pub loop-la-preserved : goal.loop-la-preserved
 loop-la-preserved c =
-    let kept : ℕ → ℕ → List Found = let a = c.args in keeps a.k a.radius a.under a.litems.now a.lcoords.now a.ritems.now a.rcoords.now in
+    let kept : ℕ → ℕ → List Found = let a = c.args in keeps a.trees.now.k a.within.radius (edge_of a.within.edge) a.trees.now.left.items.now a.trees.now.left.coords.now a.trees.now.right.items.now a.trees.now.right.coords.now in
     let first : let a = c.args in let f = kept in let la = c.loop-la.la in of_leaves f la a.lend a.rs a.rend ≡ of_tile_leaf f la c.tile_end-le.result a.rs a.rend ++ of_leaves f c.tile_end-le.result a.lend a.rs a.rend = let a = c.args in
     let f = kept in
     let la = c.loop-la.la in
@@ -63,6 +64,6 @@ loop-la-preserved c =
 
 pub returns : goal.returns
 returns c =
-    let kept : ℕ → ℕ → List Found = let a = c.args in keeps a.k a.radius a.under a.litems.now a.lcoords.now a.ritems.now a.rcoords.now in
+    let kept : ℕ → ℕ → List Found = let a = c.args in keeps a.trees.now.k a.within.radius (edge_of a.within.edge) a.trees.now.left.items.now a.trees.now.left.coords.now a.trees.now.right.items.now a.trees.now.right.coords.now in
     let l = c.loop-la in
     omega (arith, l.invariant.3, ap length (leaf_done kept l.la c.args.lend c.args.rs c.args.rend c.loop-la-test.false))

@@ -18,15 +18,15 @@ loop-j-init c = refl
 pub overflow_add-n : goal.overflow_add-n
 overflow_add-n c =
     let test : ℕ → Bool = let a = c.args in
-    passing (edge_of a.under) a.radius (reached a.sums.now a.q a.column.now) in
+    passing (edge_of a.within.edge) a.within.radius (reached a.sums.now a.q a.column.now) in
     let one : c.passes-n.result ≡ cond (test c.loop-j.j) 1 0 = let a = c.args in
-    c.passes-n.ensures ∙ ap (λ (x : Float). cond (passes (edge_of a.under) a.radius (add binary64 (get_or a.sums.now c.loop-j.j nan) x)) 1 0) c.square.ensures in
+    c.passes-n.ensures ∙ ap (λ (x : Float). cond (passes (edge_of a.within.edge) a.within.radius (add binary64 (get_or a.sums.now c.loop-j.j nan) x)) 1 0) c.square.ensures in
     omega (arith, one, one_at_most (test c.loop-j.j), hits_few test c.loop-j.j)
 
 pub loop-j-preserved : goal.loop-j-preserved
 loop-j-preserved c =
     let test : ℕ → Bool = let a = c.args in
-    passing (edge_of a.under) a.radius (reached a.sums.now a.q a.column.now) in
+    passing (edge_of a.within.edge) a.within.radius (reached a.sums.now a.q a.column.now) in
     let one : c.passes-n.result ≡ cond (test c.loop-j.j) 1 0 = let a = c.args in
-    c.passes-n.ensures ∙ ap (λ (x : Float). cond (passes (edge_of a.under) a.radius (add binary64 (get_or a.sums.now c.loop-j.j nan) x)) 1 0) c.square.ensures in
+    c.passes-n.ensures ∙ ap (λ (x : Float). cond (passes (edge_of a.within.edge) a.within.radius (add binary64 (get_or a.sums.now c.loop-j.j nan) x)) 1 0) c.square.ensures in
     hits_next _ _ c.loop-j.invariant one

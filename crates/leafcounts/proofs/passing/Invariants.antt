@@ -5,4 +5,4 @@ use Rattle.leaf.specs.Sums.{hits, passing, reached}
 use Rattle.leafcounts.proofs.passing.Given as goal
 
 abbrev pub invariant-loop-j : goal.invariant-loop-j
-invariant-loop-j l = l.n ≡ hits (passing (edge_of l.under) l.radius (reached l.sums l.q l.column)) l.j
+invariant-loop-j l = l.n ≡ hits (passing (edge_of l.within.edge) l.within.radius (reached l.sums l.q l.column)) l.j

@@ -1,4 +1,5 @@
 -- What is counted and what the points from p on keep are together what the tile keeps. Assumes nothing.
+use Rattle.metric.specs.Edges.{edge_of}
 use mathlib.Core.Path.{◌≡◌}
 use Prim.Native.Nat.{◌+◌, ◌^◌, ◌≤◌}
 use lib.ListN.{length}
@@ -9,5 +10,5 @@ use Rattle.leafcounts.proofs.tile_counts.Given as goal
 
 abbrev pub invariant-loop-p : goal.invariant-loop-p
 invariant-loop-p l =
-    let f = keeps l.k l.radius l.under l.litems l.lcoords l.ritems l.rcoords in
-    TilePair l.k l.litems l.lcoords l.la l.le l.ritems l.rcoords l.ra l.re × Fresh l.k l.sums × (l.n + length (of_tile_pair f l.p l.le l.ra l.re) ≡ length (of_tile_pair f l.la l.le l.ra l.re)) × (length (of_tile_pair f l.la l.le l.ra l.re) ≤ 2 ^ 63)
+    let f = keeps l.trees.k l.within.radius (edge_of l.within.edge) l.trees.left.items.now l.trees.left.coords.now l.trees.right.items.now l.trees.right.coords.now in
+    TilePair l.trees.k l.trees.left.items.now l.trees.left.coords.now l.la l.le l.trees.right.items.now l.trees.right.coords.now l.ra l.re × Fresh l.trees.k l.sums × (l.n + length (of_tile_pair f l.p l.le l.ra l.re) ≡ length (of_tile_pair f l.la l.le l.ra l.re)) × (length (of_tile_pair f l.la l.le l.ra l.re) ≤ 2 ^ 63)

@@ -1,4 +1,5 @@
 -- What is counted and what the right tiles from ra on keep are together what the leaf keeps of this left tile. Assumes nothing.
+use Rattle.metric.specs.Edges.{edge_of}
 use mathlib.Core.Path.{◌≡◌, sym, ap, ◌∙◌, subst}
 use mathlib.Core.List.{List, ◌++◌}
 use Prim.Native.Nat.{ℕ, ◌+◌, ◌-◌, min}
@@ -13,7 +14,7 @@ use Rattle.leafcounts.proofs.tile_leaf_counts.Goals as goal
 
 pub tile_counts-n-requires : goal.tile_counts-n-requires
 tile_counts-n-requires c =
-    let kept : ℕ → ℕ → List Found = let a = c.args in keeps a.k a.radius a.under a.litems.now a.lcoords.now a.ritems.now a.rcoords.now in
+    let kept : ℕ → ℕ → List Found = let a = c.args in keeps a.trees.now.k a.within.radius (edge_of a.within.edge) a.trees.now.left.items.now a.trees.now.left.coords.now a.trees.now.right.items.now a.trees.now.right.coords.now in
     let first : let a = c.args in let f = kept in let ra = c.loop-ra.ra in of_tile_leaf f a.la a.le ra a.rend ≡ of_tile_pair f a.la a.le ra c.tile_end-re.result ++ of_tile_leaf f a.la a.le c.tile_end-re.result a.rend = let a = c.args in
     let f = kept in
     let ra = c.loop-ra.ra in
@@ -28,7 +29,7 @@ tile_counts-n-requires c =
 
 pub overflow_add-n : goal.overflow_add-n
 overflow_add-n c =
-    let kept : ℕ → ℕ → List Found = let a = c.args in keeps a.k a.radius a.under a.litems.now a.lcoords.now a.ritems.now a.rcoords.now in
+    let kept : ℕ → ℕ → List Found = let a = c.args in keeps a.trees.now.k a.within.radius (edge_of a.within.edge) a.trees.now.left.items.now a.trees.now.left.coords.now a.trees.now.right.items.now a.trees.now.right.coords.now in
     let first : let a = c.args in let f = kept in let ra = c.loop-ra.ra in of_tile_leaf f a.la a.le ra a.rend ≡ of_tile_pair f a.la a.le ra c.tile_end-re.result ++ of_tile_leaf f a.la a.le c.tile_end-re.result a.rend = let a = c.args in
     let f = kept in
     let ra = c.loop-ra.ra in
@@ -42,7 +43,7 @@ overflow_add-n c =
 
 pub loop-ra-preserved : goal.loop-ra-preserved
 loop-ra-preserved c =
-    let kept : ℕ → ℕ → List Found = let a = c.args in keeps a.k a.radius a.under a.litems.now a.lcoords.now a.ritems.now a.rcoords.now in
+    let kept : ℕ → ℕ → List Found = let a = c.args in keeps a.trees.now.k a.within.radius (edge_of a.within.edge) a.trees.now.left.items.now a.trees.now.left.coords.now a.trees.now.right.items.now a.trees.now.right.coords.now in
     let first : let a = c.args in let f = kept in let ra = c.loop-ra.ra in of_tile_leaf f a.la a.le ra a.rend ≡ of_tile_pair f a.la a.le ra c.tile_end-re.result ++ of_tile_leaf f a.la a.le c.tile_end-re.result a.rend = let a = c.args in
     let f = kept in
     let ra = c.loop-ra.ra in
@@ -58,6 +59,6 @@ loop-ra-preserved c =
 
 pub returns : goal.returns
 returns c =
-    let kept : ℕ → ℕ → List Found = let a = c.args in keeps a.k a.radius a.under a.litems.now a.lcoords.now a.ritems.now a.rcoords.now in
+    let kept : ℕ → ℕ → List Found = let a = c.args in keeps a.trees.now.k a.within.radius (edge_of a.within.edge) a.trees.now.left.items.now a.trees.now.left.coords.now a.trees.now.right.items.now a.trees.now.right.coords.now in
     let l = c.loop-ra in
     omega (arith, l.invariant.3, ap length (tiles_none kept c.args.la c.args.le l.ra c.args.rend c.loop-ra-test.false))

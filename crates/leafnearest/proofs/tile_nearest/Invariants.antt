@@ -7,5 +7,5 @@ use Rattle.leafnearest.proofs.tile_nearest.Given as goal
 
 abbrev pub invariant-loop-q : goal.invariant-loop-q
 invariant-loop-q l =
-    let j = join_of l.k l.litems l.lcoords l.ritems l.rcoords in
-    TilePair l.k l.ritems l.rcoords l.rs l.rend l.litems l.lcoords l.la l.le × Answering l.la l.le l.items l.dists × Fresh l.k l.sums × (improved j l.la l.q l.rend (answers l.items l.dists) ≡ improved j l.la l.rs l.rend (answers l.initial.items l.initial.dists))
+    let j = join_of l.trees.k l.trees.left.items.now l.trees.left.coords.now l.trees.right.items.now l.trees.right.coords.now in
+    TilePair l.trees.k l.trees.right.items.now l.trees.right.coords.now l.rs l.rend l.trees.left.items.now l.trees.left.coords.now l.la l.le × Answering l.la l.le l.items l.dists × Fresh l.trees.k l.sums × (improved j l.la l.q l.rend (answers l.items l.dists) ≡ improved j l.la l.rs l.rend (answers l.initial.items l.initial.dists))

@@ -22,7 +22,7 @@ loop-la-preserved c = let w = c.loop-la in
     let t = tile_ends c.loop-la-test.true c.tile_end-le.ensures in
     let h = w.invariant.2 in
     let lent = c.tile_nearest.new in
-    let j = join_of a.k a.litems.now a.lcoords.now a.ritems.now a.rcoords.now in
+    let j = join_of a.trees.now.k a.trees.now.left.items.now a.trees.now.left.coords.now a.trees.now.right.items.now a.trees.now.right.coords.now in
     (w.invariant.0, search rules, le_trans h t.0, t.1, part_changed (improvement j a.rs a.rend) w.la (w.la - a.ls) _ w.items lent.items w.dists lent.dists (w.invariant.1.0 ∙ sym w.invariant.1.1) (part_inside h t.0 t.1 w.items w.invariant.1.0) c.items-1.given.0 c.dists-1.given.0 c.tile_nearest.ensures (part_place h t.0 t.1) (part_end h t.0 t.1) ∙ w.invariant.4)
 
 pub returns : goal.returns

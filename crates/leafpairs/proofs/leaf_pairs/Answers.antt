@@ -1,4 +1,5 @@
 -- What the left tiles from la on keep is left to store. Assumes nothing.
+use Rattle.metric.specs.Edges.{edge_of}
 use mathlib.Core.Path.{◌≡◌, sym, subst}
 use mathlib.Core.List.{List, ◌++◌}
 use Prim.Native.Nat.{ℕ, ◌+◌, ◌-◌, min}
@@ -12,7 +13,7 @@ use Rattle.leafpairs.proofs.leaf_pairs.Goals as goal
 
 pub tile_leaf-n-requires : goal.tile_leaf-n-requires
 tile_leaf-n-requires c =
-    let kept : ℕ → ℕ → List Found = let a = c.args in keeps a.k a.radius a.under a.litems.now a.lcoords.now a.ritems.now a.rcoords.now in
+    let kept : ℕ → ℕ → List Found = let a = c.args in keeps a.trees.now.k a.within.radius (edge_of a.within.edge) a.trees.now.left.items.now a.trees.now.left.coords.now a.trees.now.right.items.now a.trees.now.right.coords.now in
     let here : List Found = let a = c.args in of_tile_leaf kept c.loop-la.la c.tile_end-le.result a.rs a.rend in
     let after : List Found = let a = c.args in of_leaves kept c.tile_end-le.result a.lend a.rs a.rend in
     let first : let a = c.args in of_leaves kept c.loop-la.la a.lend a.rs a.rend ≡ here ++ after = let a = c.args in
@@ -25,7 +26,7 @@ tile_leaf-n-requires c =
 
 pub loop-la-preserved : goal.loop-la-preserved
 loop-la-preserved c =
-    let kept : ℕ → ℕ → List Found = let a = c.args in keeps a.k a.radius a.under a.litems.now a.lcoords.now a.ritems.now a.rcoords.now in
+    let kept : ℕ → ℕ → List Found = let a = c.args in keeps a.trees.now.k a.within.radius (edge_of a.within.edge) a.trees.now.left.items.now a.trees.now.left.coords.now a.trees.now.right.items.now a.trees.now.right.coords.now in
     let here : List Found = let a = c.args in of_tile_leaf kept c.loop-la.la c.tile_end-le.result a.rs a.rend in
     let after : List Found = let a = c.args in of_leaves kept c.tile_end-le.result a.lend a.rs a.rend in
     let first : let a = c.args in of_leaves kept c.loop-la.la a.lend a.rs a.rend ≡ here ++ after = let a = c.args in
@@ -40,5 +41,5 @@ loop-la-preserved c =
 pub returns : goal.returns
 returns c = let a = c.args in
     let u = c.loop-la in
-    let f = keeps a.k a.radius a.under a.litems.now a.lcoords.now a.ritems.now a.rcoords.now in
+    let f = keeps a.trees.now.k a.within.radius (edge_of a.within.edge) a.trees.now.left.items.now a.trees.now.left.coords.now a.trees.now.right.items.now a.trees.now.right.coords.now in
     none_left u.invariant.3 (leaf_done f u.la a.lend a.rs a.rend c.loop-la-test.false)

@@ -1,4 +1,5 @@
 -- What the right tiles from ra on keep is left to store. Assumes nothing.
+use Rattle.metric.specs.Edges.{edge_of}
 use mathlib.Core.Path.{◌≡◌, sym, subst}
 use mathlib.Core.List.{List, ◌++◌}
 use Prim.Native.Nat.{ℕ, ◌+◌, ◌-◌, min}
@@ -12,7 +13,7 @@ use Rattle.leafpairs.proofs.tile_leaf.Goals as goal
 
 pub tile_pair-n-requires : goal.tile_pair-n-requires
 tile_pair-n-requires c =
-    let kept : ℕ → ℕ → List Found = let a = c.args in keeps a.k a.radius a.under a.litems.now a.lcoords.now a.ritems.now a.rcoords.now in
+    let kept : ℕ → ℕ → List Found = let a = c.args in keeps a.trees.now.k a.within.radius (edge_of a.within.edge) a.trees.now.left.items.now a.trees.now.left.coords.now a.trees.now.right.items.now a.trees.now.right.coords.now in
     let here : List Found = let a = c.args in of_tile_pair kept a.la a.le c.loop-ra.ra c.tile_end-re.result in
     let after : List Found = let a = c.args in of_tile_leaf kept a.la a.le c.tile_end-re.result a.rend in
     let first : let a = c.args in of_tile_leaf kept a.la a.le c.loop-ra.ra a.rend ≡ here ++ after = let a = c.args in
@@ -25,7 +26,7 @@ tile_pair-n-requires c =
 
 pub loop-ra-preserved : goal.loop-ra-preserved
 loop-ra-preserved c =
-    let kept : ℕ → ℕ → List Found = let a = c.args in keeps a.k a.radius a.under a.litems.now a.lcoords.now a.ritems.now a.rcoords.now in
+    let kept : ℕ → ℕ → List Found = let a = c.args in keeps a.trees.now.k a.within.radius (edge_of a.within.edge) a.trees.now.left.items.now a.trees.now.left.coords.now a.trees.now.right.items.now a.trees.now.right.coords.now in
     let here : List Found = let a = c.args in of_tile_pair kept a.la a.le c.loop-ra.ra c.tile_end-re.result in
     let after : List Found = let a = c.args in of_tile_leaf kept a.la a.le c.tile_end-re.result a.rend in
     let first : let a = c.args in of_tile_leaf kept a.la a.le c.loop-ra.ra a.rend ≡ here ++ after = let a = c.args in
@@ -40,5 +41,5 @@ loop-ra-preserved c =
 pub returns : goal.returns
 returns c = let a = c.args in
     let u = c.loop-ra in
-    let f = keeps a.k a.radius a.under a.litems.now a.lcoords.now a.ritems.now a.rcoords.now in
+    let f = keeps a.trees.now.k a.within.radius (edge_of a.within.edge) a.trees.now.left.items.now a.trees.now.left.coords.now a.trees.now.right.items.now a.trees.now.right.coords.now in
     none_left u.invariant.3 (tiles_none f a.la a.le u.ra a.rend c.loop-ra-test.false)

@@ -1,4 +1,5 @@
 -- What the points from p on keep is left to store. Assumes nothing.
+use Rattle.metric.specs.Edges.{edge_of}
 use Rattle.leaf.specs.Kept.{keeps, of_tile_pair}
 use Rattle.leaf.specs.Lent.{TilePair}
 use Rattle.leaf.specs.Sums.{Fresh}
@@ -7,5 +8,5 @@ use Rattle.leafpairs.proofs.tile_pair.Given as goal
 
 abbrev pub invariant-loop-p : goal.invariant-loop-p
 invariant-loop-p l =
-    let f = keeps l.k l.radius l.under l.litems l.lcoords l.ritems l.rcoords in
-    TilePair l.k l.litems l.lcoords l.la l.le l.ritems l.rcoords l.ra l.re × Fresh l.k l.sums × Remaining l.found l.initial.lout l.initial.rout l.initial.dout (of_tile_pair f l.la l.le l.ra l.re) l.n l.lout l.rout l.dout (of_tile_pair f l.p l.le l.ra l.re)
+    let f = keeps l.trees.k l.within.radius (edge_of l.within.edge) l.trees.left.items.now l.trees.left.coords.now l.trees.right.items.now l.trees.right.coords.now in
+    TilePair l.trees.k l.trees.left.items.now l.trees.left.coords.now l.la l.le l.trees.right.items.now l.trees.right.coords.now l.ra l.re × Fresh l.trees.k l.sums × Remaining l.found l.initial.lout l.initial.rout l.initial.dout (of_tile_pair f l.la l.le l.ra l.re) l.n l.lout l.rout l.dout (of_tile_pair f l.p l.le l.ra l.re)

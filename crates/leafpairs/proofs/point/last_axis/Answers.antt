@@ -21,16 +21,16 @@ loop-j-init c = (c.requires.0, c.requires.1, (λ j l. absurd (not-suc-le-zero l)
 
 pub overflow_add-n : goal.overflow_add-n
 overflow_add-n c =
-    let bit : let a = c.args in c.passes-n.result ≡ cond (passing (edge_of a.under) a.radius (reached a.sums.now a.q a.column.now) c.loop-j.j) 1 0 = let u = c.loop-j in
+    let bit : let a = c.args in c.passes-n.result ≡ cond (passing (edge_of a.within.edge) a.within.radius (reached a.sums.now a.q a.column.now) c.loop-j.j) 1 0 = let u = c.loop-j in
     let a = c.args in
-    c.passes-n.ensures ∙ ap (λ (x : Float). cond (passes (edge_of a.under) a.radius (add binary64 (get_or a.sums.now u.j nan) x)) 1 0) c.square.ensures in
+    c.passes-n.ensures ∙ ap (λ (x : Float). cond (passes (edge_of a.within.edge) a.within.radius (add binary64 (get_or a.sums.now u.j nan) x)) 1 0) c.square.ensures in
     omega (arith, next_few _ c.loop-j.j c.loop-j.invariant.3 bit)
 
 pub loop-j-preserved : goal.loop-j-preserved
 loop-j-preserved c =
-    let bit : let a = c.args in c.passes-n.result ≡ cond (passing (edge_of a.under) a.radius (reached a.sums.now a.q a.column.now) c.loop-j.j) 1 0 = let u = c.loop-j in
+    let bit : let a = c.args in c.passes-n.result ≡ cond (passing (edge_of a.within.edge) a.within.radius (reached a.sums.now a.q a.column.now) c.loop-j.j) 1 0 = let u = c.loop-j in
     let a = c.args in
-    c.passes-n.ensures ∙ ap (λ (x : Float). cond (passes (edge_of a.under) a.radius (add binary64 (get_or a.sums.now u.j nan) x)) 1 0) c.square.ensures in
+    c.passes-n.ensures ∙ ap (λ (x : Float). cond (passes (edge_of a.within.edge) a.within.radius (add binary64 (get_or a.sums.now u.j nan) x)) 1 0) c.square.ensures in
     let u = c.loop-j in
     let a = c.args in
     let square = c.square.ensures in
@@ -39,5 +39,5 @@ loop-j-preserved c =
       u.invariant.0,
       simp length-set u.invariant.1,
       rw (add-one u.j) (place_next u.dists u.j _ f inside u.invariant.2 (ap (add binary64 (get_or a.sums.now u.j nan)) square)),
-      hits_next (passing (edge_of a.under) a.radius f) u.j u.invariant.3 bit,
+      hits_next (passing (edge_of a.within.edge) a.within.radius f) u.j u.invariant.3 bit,
     )

@@ -7,4 +7,4 @@ use Rattle.leaf.specs.Sums.{Holds, reached, passing, hits}
 use Rattle.leafpairs.proofs.point.last_axis.Given as goal
 
 abbrev pub invariant-loop-j : goal.invariant-loop-j
-invariant-loop-j l = (length l.column ≤ 32) × (length l.column ≤ length l.dists) × Holds l.dists l.j (reached l.sums l.q l.column) × (l.n ≡ hits (passing (edge_of l.under) l.radius (reached l.sums l.q l.column)) l.j)
+invariant-loop-j l = (length l.column ≤ 32) × (length l.column ≤ length l.dists) × Holds l.dists l.j (reached l.sums l.q l.column) × (l.n ≡ hits (passing (edge_of l.within.edge) l.within.radius (reached l.sums l.q l.column)) l.j)

@@ -25,7 +25,7 @@ overflow_add-n c = omega (arith, next_few _ c.loop-j.j c.loop-j.invariant.2 c.pa
 pub loop-j-preserved : goal.loop-j-preserved
 loop-j-preserved c = let u = c.loop-j in
     let a = c.args in
-    let test = passing (edge_of a.under) a.radius (row a.dists.now) in (
+    let test = passing (edge_of a.within.edge) a.within.radius (row a.dists.now) in (
       u.invariant.0,
       simp length-set u.invariant.1,
       hits_next test u.j u.invariant.2 c.passes.ensures,

@@ -8,4 +8,4 @@ use Rattle.rooms.specs.Emitted.{places_of}
 use Rattle.leafpairs.proofs.point.passing_places.Given as goal
 
 abbrev pub invariant-loop-j : goal.invariant-loop-j
-invariant-loop-j l = (l.len ≤ 32) × (l.len ≤ length l.places) × (l.n ≡ hits (passing (edge_of l.under) l.radius (row l.dists)) l.j) × (take l.n l.places ≡ places_of (passing (edge_of l.under) l.radius (row l.dists)) l.j)
+invariant-loop-j l = (l.len ≤ 32) × (l.len ≤ length l.places) × (l.n ≡ hits (passing (edge_of l.within.edge) l.within.radius (row l.dists)) l.j) × (take l.n l.places ≡ places_of (passing (edge_of l.within.edge) l.within.radius (row l.dists)) l.j)
