@@ -20,7 +20,7 @@ use Rattle.steps.specs.declared.nodes.Nodes.{Nodes}
 use Rattle.steps.specs.declared.descent.Descent.{Descent}
 use Rattle.steps.specs.declared.waiting.Waiting.{Waiting}
 use Rattle.steps.specs.declared.waiting.Waiting.TheVariants.{Half}
-use Rattle.steps.specs.Standing.{pair_at, chosen, SplitsAt, Descended}
+use Rattle.steps.specs.Standing.{pair_at, side_by, chosen, SplitsAt, Descended}
 use Rattle.steps.proofs.Halves.{Order, near_first, far_first, first, second, first_has, second_has, slot_of, within_boxes, put, first_boxes, waiting_boxes, first_sized, put_back, put_second}
 use Rattle.steps.proofs.Waits.{view, view_push, view_length}
 use Rattle.steps.proofs.Pending.{levels_left, OnwardFrom, BelowIt, goes_below, forks_below, Walk, resume, resume_half}
@@ -33,6 +33,10 @@ pub record SplitsOn (j : Trees) (s : NodePair) (x : Step NodePair) (side : HeldS
   pub splits_so : x ≡ split j (picked s) s
   pub side_is : side_of side ≡ picked s
   pub no_leaves : (is_leaf s.left && is_leaf s.right) ≡ false
+
+pub side_picked : (right : Bool) → side_of (side_by right) ≡ cond right right_side left_side
+side_picked true = refl
+side_picked false = refl
 
 -- both halves, in the order in which they are taken
 first_is : (o : Order) {n f : Nodes} {low high : Boxes} {t u : NodePair} → pair_at n low ≡ t → pair_at f high ≡ u → pair_at (first o n f) (first o low high) ≡ first o t u

@@ -1,5 +1,5 @@
 -- A node of each tree as the code holds them, what it reads there, and one level down (document 01, "A cursor splits into its two children"). Assumes nothing.
-use Rattle.std.specs.Prelude.{◌≡◌, List, ℕ, ◌-◌, ◌≤◌, ◌<◌, length, get_or, Float}
+use Rattle.std.specs.Prelude.{◌≡◌, Bool, cond, List, ℕ, ◌-◌, ◌≤◌, ◌<◌, length, get_or, Float}
 use Rattle.std.specs.Float.{nan}
 use Rattle.written.specs.LentTree.{Cursor, near, far, axis}
 use Rattle.written.specs.Boxes.{Boxes}
@@ -8,6 +8,7 @@ use Rattle.cursor.specs.Held.{node_of, Splits, side_of}
 use Rattle.steps.specs.declared.nodes.Nodes.{Nodes}
 use Rattle.steps.specs.declared.descent.Descent.{Descent}
 use Rattle.cursor.specs.declared.lent.Side.{Side as HeldSide}
+use Rattle.cursor.specs.declared.lent.Side.TheVariants.{Left, Right}
 
 -- the node pair, with the boxes of both
 abbrev pub pair_at : Nodes → Boxes → NodePair
@@ -30,6 +31,10 @@ abbrev pub points_of : List ℕ → Cursor → ℕ
 points_of starts c = get_or starts c.end 0 - get_or starts c.first 0
 
 -- ---- one level down
+
+-- the side that is split, by whether it is the right one
+abbrev pub side_by : Bool → HeldSide
+side_by right = cond right Right Left
 
 -- the node on the side that is split
 abbrev pub chosen : HeldSide → Nodes → Cursor
