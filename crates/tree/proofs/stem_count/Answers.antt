@@ -1,8 +1,6 @@
 -- The shift is 2^levels, at most 4096. Assumes nothing.
-use mathlib.Core.Path.{◌≡◌, ◌∙◌}
-use Prim.Native.Nat.{ℕ, ◌*◌, ◌%◌, ◌^◌, ◌≤◌}
+use Rattle.std.proofs.Common.{◌≡◌, ◌∙◌, ℕ, ◌*◌, ◌%◌, ◌^◌, ◌≤◌, arith}
 use native.Mathlib.Nat.{one-mul}
-use native.Mathlib.Omega.{arith}
 use borrow.Author.Tests.{le-ltb}
 use lib.Dec.{lit<}
 use lib.Pow.{shl_exact}
@@ -18,6 +16,6 @@ few c = omega (arith, levels_least c.args.m 12 c.requires)
 pub overflow_shl-result : goal.overflow_shl-result
 overflow_shl-result c = omega (arith, few c)
 
-pub returns : goal.returns
-returns c =
+pub returns-else-m-lt2 : goal.returns-else-m-lt2
+returns-else-m-lt2 c =
     rw (le-ltb c.args.m 2 (omega arith), shift_is _ (few c), c.levels.ensures)

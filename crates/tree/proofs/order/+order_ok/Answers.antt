@@ -1,56 +1,49 @@
 -- The recursion computes `down`: a node's own test, then its near child, then its far child. Assumes nothing.
-use Rattle.std.proofs.Common.{sym, ap, ◌∙◌, subst, arith}
-use native.Mathlib.Nat.{pos_of_ne-zero}
-use Rattle.written.specs.LentTree.{Cursor}
+use Rattle.std.proofs.Common.{◌≡◌, sym, ap, ◌∙◌, ℕ, ◌<◌, subst, arith, false}
+use Rattle.written.specs.LentTree.{Cursor, is_leaf}
 use Rattle.cursor.specs.Held.{node_of}
-use Rattle.tree.specs.Lent.{tree_of, Stands, order_at}
-use Rattle.tree.proofs.Descent.{last_passes, fails_here, fails_near, far_decides}
+use Rattle.cursor.specs.Lent.{lent_tree}
+use Rattle.tree.specs.Lent.{Stands, order_at}
+use Rattle.tree.proofs.Descent.{has_level, so_far, last_passes, near_decides, own_fails, fails, far_decides}
 use Rattle.tree.proofs.Nodes.{splits, near_stands, far_stands}
 use Rattle.tree.proofs.order.+order_ok.Goals as goal
+use Rattle.tree.proofs.order.+order_ok.Goals.{Else-is_leaf, Joined-node_ok, then-node_ok, else-node_ok}
 
-pub returns-then-c-eq0 : goal.returns-then-c-eq0
-returns-then-c-eq0 n c =
-    let a = c.args in
-    let t = tree_of a.starts.now a.stems.now a.items.now a.coords.now in
-    last_passes (order_at a.k t) (node_of a.c) c.if-c-eq0.true
+pub returns-then-is_leaf : goal.returns-then-is_leaf
+returns-then-is_leaf t c = last_passes (order_at c.args.k (lent_tree c.args.tree.now)) (node_of c.args.c) (sym c.is_leaf.ensures ∙ c.if-is_leaf.true)
 
-pub returns-then-not-node_ok : goal.returns-then-not-node_ok
-returns-then-not-node_ok n c =
-    let a = c.args in
-    let t = tree_of a.starts.now a.stems.now a.items.now a.coords.now in
-    let h = pos_of_ne-zero c.if-c-eq0.false in
-    fails_here (order_at a.k t) (node_of a.c) h (sym c.node_ok.ensures ∙ c.if-not-node_ok.true)
+no_leaf : (t : ℕ) (c : Else-is_leaf t) → is_leaf (node_of c.args.c) ≡ false
+no_leaf t c = sym c.is_leaf.ensures ∙ c.if-is_leaf.false
 
 pub split-halves-requires : goal.split-halves-requires
-split-halves-requires n c = splits c.requires (pos_of_ne-zero c.if-c-eq0.false)
+split-halves-requires t c = splits c.requires (has_level (node_of c.args.c) (no_leaf t c))
 
 pub order_ok-requires : goal.order_ok-requires
-order_ok-requires n c =
-    let a = c.args in
-    let t = tree_of a.starts.now a.stems.now a.items.now a.coords.now in
-    let h = pos_of_ne-zero c.if-c-eq0.false in
+order_ok-requires t c =
+    let h : 0 < c.args.c.remaining = has_level (node_of c.args.c) (no_leaf t (goal.at.order_ok-requires t c).Else-is_leaf) in
     let e = c.split-halves.ensures.near_value in
-    (omega (arith, ap (λ (x : Cursor). x.rest) e, h), subst (λ (x : Cursor). Stands a.k t x) (sym e) (near_stands c.requires h))
+    (omega (arith, ap (λ (x : Cursor). x.rest) e, h), subst (Stands c.args.k (lent_tree c.args.tree.now)) (sym e) (near_stands c.requires h))
 
-pub returns-then-not-order_ok : goal.returns-then-not-order_ok
-returns-then-not-order_ok n c =
-    let a = c.args in
-    let t = tree_of a.starts.now a.stems.now a.items.now a.coords.now in
-    let h = pos_of_ne-zero c.if-c-eq0.false in
-    fails_near (order_at a.k t) (node_of a.c) h (sym c.node_ok.ensures ∙ c.if-not-node_ok.false) (node_of c.split-halves.result.near) c.split-halves.ensures.near_value (sym c.order_ok.ensures ∙ c.if-not-order_ok.true)
+-- what the node's own test and its near child say
+so_far_is : (t : ℕ) (c : Joined-node_ok t) → c.if-node_ok.value ≡ so_far (order_at c.args.k (lent_tree c.args.tree.now)) (node_of c.args.c)
+so_far_is t c =
+    elim c.if-node_ok.branch [
+      | then-node_ok w ↦ w.value-is ∙ near_decides (order_at c.args.k (lent_tree c.args.tree.now)) (node_of c.args.c) c.node_ok.ensures w.if-node_ok.true c.split-halves.ensures.near_value w.order_ok.ensures
+      | else-node_ok w ↦ w.value-is ∙ own_fails (order_at c.args.k (lent_tree c.args.tree.now)) (node_of c.args.c) c.node_ok.ensures w.if-node_ok.false
+    ]
 
-pub order_ok-requires-2 : goal.order_ok-requires-2
-order_ok-requires-2 n c =
-    let a = c.args in
-    let t = tree_of a.starts.now a.stems.now a.items.now a.coords.now in
-    let h = pos_of_ne-zero c.if-c-eq0.false in
+pub order_ok-requires-then-order_ok : goal.order_ok-requires-then-order_ok
+order_ok-requires-then-order_ok t c =
+    let h : 0 < c.args.c.remaining = has_level (node_of c.args.c) (no_leaf t (goal.at.order_ok-requires-then-order_ok t c).Else-is_leaf) in
     let e = c.split-halves.ensures.far_value in
-    (omega (arith, ap (λ (x : Cursor). x.rest) e, h), subst (λ (x : Cursor). Stands a.k t x) (sym e) (far_stands c.requires h))
+    (omega (arith, ap (λ (x : Cursor). x.rest) e, h), subst (Stands c.args.k (lent_tree c.args.tree.now)) (sym e) (far_stands c.requires h))
 
-pub returns : goal.returns
-returns n c =
-    let a = c.args in
-    let t = tree_of a.starts.now a.stems.now a.items.now a.coords.now in
-    let h = pos_of_ne-zero c.if-c-eq0.false in
-    c.order_ok-2.ensures
-    ∙ far_decides (order_at a.k t) (node_of a.c) h (sym c.node_ok.ensures ∙ c.if-not-node_ok.false) (node_of c.split-halves.result.near) c.split-halves.ensures.near_value (sym c.order_ok.ensures ∙ c.if-not-order_ok.false) (node_of c.split-halves.result.far) c.split-halves.ensures.far_value
+pub returns-else-order_ok : goal.returns-else-order_ok
+returns-else-order_ok t c =
+    let at = goal.at.returns-else-order_ok t c in
+    fails (order_at c.args.k (lent_tree c.args.tree.now)) (node_of c.args.c) (no_leaf t at.Else-is_leaf) (so_far_is t at.Joined-node_ok) c.if-order_ok.false
+
+pub returns-then-order_ok : goal.returns-then-order_ok
+returns-then-order_ok t c =
+    let at = goal.at.returns-then-order_ok t c in
+    far_decides (order_at c.args.k (lent_tree c.args.tree.now)) (node_of c.args.c) (no_leaf t at.Else-is_leaf) (so_far_is t at.Joined-node_ok) c.if-order_ok.true c.split-halves.ensures.far_value c.order_ok-then-order_ok.ensures

@@ -6,7 +6,5 @@ use Rattle.tree.proofs.pivots.pivot_ok.Goals as goal
 pub span-requires : goal.span-requires
 span-requires c = (on_node c.requires.0.node).ordered
 
-pub bounds-stems-stem : goal.bounds-stems-stem
-bounds-stems-stem c =
-    let p = c.requires in
-    stem_read p.0 p.1
+pub pivot-requires : goal.pivot-requires
+pivot-requires c = stem_read c.requires.0 c.requires.1
