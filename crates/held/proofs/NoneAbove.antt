@@ -1,14 +1,11 @@
 -- A bound is not below the largest of some distances, 0 where there are none, just if it is not below 0 and no distance is above it, NaN included. Assumes nothing.
 use mathlib.Core.Path.{◌≡◌, refl, sym, ap, ◌∙◌}
 use mathlib.Core.Logic.{inl, inr}
-use mathlib.Core.Bool.{Bool, true, false, not, ◌&&◌, cond, and-true, and-false, and_assoc}
+use mathlib.Core.Bool.{Bool, true, false, not, ◌&&◌, ◌||◌, cond, and-true, and-false, and_assoc}
 use mathlib.Core.List.{List, [], ◌∷◌}
-use Prim.Native.Nat.{ℕ, ◌+◌, ◌≤◌, ◌<◌}
-use native.Mathlib.Numerals.{add-one}
 use lib.Dec.{T}
-use lib.ListN.{length, get_or, drop, drop_of_length-le}
-use lib.Seq.{drop-cons}
 use lib.Ieee.{Float, nan, inf, fin, lt, le, is_nan}
+use Rattle.std.specs.List.{list_any}
 use Rattle.rounding.specs.Distance.{zero₊}
 use Rattle.rounding.proofs.Order.{known, nan_right, lt→le, le_trans, le_lt_trans, asym, split}
 use Rattle.written.specs.Boxes.{under, beyond}
@@ -71,13 +68,12 @@ pub not_below_is : (bound : Float) (ds : List Float) → none_above bound ds ≡
 unfolding beyond
 not_below_is bound ds e = from_is zero₊ bound ds ∙ (rw e (and-true (le zero₊ bound)))
 
--- ---- one after the other, from the place i on
+-- ---- as the code asks it
 
-pub one_above : (bound : Float) (ds : List Float) (i : ℕ) → i < length ds → lt bound (get_or ds i nan) ≡ true → none_above bound (drop i ds) ≡ false
-one_above bound ds i l h = rw (drop-cons ds i nan l, h)
-
-pub next_not_above : (bound : Float) (ds : List Float) (i : ℕ) → i < length ds → lt bound (get_or ds i nan) ≡ false → none_above bound (drop (i + 1) ds) ≡ none_above bound (drop i ds)
-next_not_above bound ds i l h = rw (add-one i, drop-cons ds i nan l, h)
-
-pub none_left : (bound : Float) (ds : List Float) (i : ℕ) → length ds ≤ i → none_above bound (drop i ds) ≡ true
-none_left bound ds i l = rw (drop_of_length-le ds l)
+pub none_is : (bound : Float) (ds : List Float) → none_above bound ds ≡ not (list_any (lt bound) ds)
+none_is bound [] = refl
+none_is bound (d ∷ ds) = go (lt bound d) (none_is bound ds)
+  where
+    go : (t : Bool) → none_above bound ds ≡ not (list_any (lt bound) ds) → (not t && none_above bound ds) ≡ not (t || list_any (lt bound) ds)
+    go true e = refl
+    go false e = e

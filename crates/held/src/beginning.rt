@@ -8,11 +8,6 @@ pub fn clear(items: &mut [u32], dists: &mut [f64])
     requires { length dists.old ≡ length items.old }
     ensures { answers items.new dists.new ≡ replicate (length items.old) unset }
 {
-    let top = 1.0 / 0.0;
-    let mut i = 0;
-    while i < items.len() {
-        items[i] = 0;
-        dists[i] = top;
-        i += 1;
-    }
+    items.fill(0);
+    dists.fill(1.0 / 0.0);
 }

@@ -17,14 +17,12 @@ fn apart<'a>(
     ensures { result ≡ apart k (boxes_of min.now max.now) (point_at lcoords.now ln p) }
 {
     let mut sum = 0.0;
-    let mut d = 0;
-    while d < k {
+    for d in 0..k {
         let e = 4 + d;
         let at = d * ln + p;
         let x = lcoords[at];
         let side = metric::lowered(max[e], metric::raised(min[e], x));
-        sum = sum + metric::square(x, side);
-        d += 1;
+        sum += metric::square(x, side);
     }
     sum
 }
@@ -42,12 +40,10 @@ pub fn gains<'a>(
     requires { Places k lcoords.now ln ls (length dists.now) }
     ensures { result ≡ one_of (gains_at k lcoords.now ln ls (boxes_of min.now max.now) dists.now) (length dists.now) }
 {
-    let mut i = 0;
-    while i < dists.len() {
-        if apart(k, lcoords, ln, ls + i, min, max) < dists[i] {
+    for (i, held) in dists.iter().enumerate() {
+        if apart(k, lcoords, ln, ls + i, min, max) < *held {
             return true;
         }
-        i += 1;
     }
     false
 }

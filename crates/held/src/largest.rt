@@ -7,12 +7,5 @@ ghost use Rattle.held.specs.Largest.{largest_of};
 pub fn not_below(dists: &[f64], bound: f64) -> bool
     ensures { result ≡ beyond under (largest_of dists.now) bound }
 {
-    let mut i = 0;
-    while i < dists.len() {
-        if bound < dists[i] {
-            return false;
-        }
-        i += 1;
-    }
-    0.0 <= bound
+    !dists.iter().any(|d| bound < *d) && 0.0 <= bound
 }

@@ -1,7 +1,5 @@
 -- The sum so far is the distance over the axes so far. Assumes nothing.
 use mathlib.Core.Path.{◌≡◌, refl, ap, ap₂, ◌∙◌}
-use Prim.Native.Nat.{zero-le}
-use native.Mathlib.Omega.{arith}
 use native.Mathlib.Numerals.{add-one}
 use lib.Ieee.{Float, add, binary64, of_bits}
 use Rattle.rounding.specs.Distance.{dist1}
@@ -13,7 +11,7 @@ use Rattle.held.proofs.gains.apart.Goals as goal
 
 pub loop-d-init : goal.loop-d-init
 unfolding apart of_bits
-loop-d-init c = (zero-le, refl)
+loop-d-init c = refl
 
 pub loop-d-preserved : goal.loop-d-preserved
 unfolding apart
@@ -23,4 +21,4 @@ loop-d-preserved c = let w = c.loop-d in
     let side : c.lowered-side.result ≡ in_right_box (boxes_of a.min.now a.max.now) (point_at a.lcoords.now a.ln a.p) w.d =
     c.lowered-side.ensures ∙ ap (λ (v : Float). lowered_to v (sides a.max.now 4 w.d)) c.raised.ensures
     in
-    (omega arith, rw (add-one w.d) (ap₂ (add binary64) w.invariant.1 (c.square-sum.ensures ∙ ap (dist1 binary64 x) side)))
+    rw (add-one w.d) (ap₂ (add binary64) w.invariant (c.square-sum.ensures ∙ ap (dist1 binary64 x) side))

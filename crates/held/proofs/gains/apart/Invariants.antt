@@ -1,13 +1,9 @@
 -- The sum so far is the distance over the axes so far. Assumes nothing.
 use mathlib.Core.Path.{◌≡◌}
-use Prim.Native.Nat.{◌-◌, ◌≤◌}
 use Rattle.metric.specs.Flat.{boxes_of}
 use Rattle.metric.specs.Lent.{point_at}
 use Rattle.held.specs.Apart.{apart}
 use Rattle.held.proofs.gains.apart.Given as goal
 
 abbrev pub invariant-loop-d : goal.invariant-loop-d
-invariant-loop-d l = (l.d ≤ l.k) × (l.sum ≡ apart l.d (boxes_of l.min l.max) (point_at l.lcoords l.ln l.p))
-
-abbrev pub decreases-loop-d : goal.decreases-loop-d
-decreases-loop-d l = l.k - l.d
+invariant-loop-d l = l.sum ≡ apart l.d (boxes_of l.min l.max) (point_at l.lcoords l.ln l.p)

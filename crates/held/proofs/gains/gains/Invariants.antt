@@ -1,14 +1,9 @@
 -- None of the places so far gains, until one does. Assumes nothing.
 use mathlib.Core.Path.{◌≡◌}
 use mathlib.Core.Bool.{false}
-use Prim.Native.Nat.{◌-◌, ◌≤◌}
-use lib.ListN.{length}
 use Rattle.metric.specs.Flat.{boxes_of}
 use Rattle.held.specs.Apart.{gains_at, one_of}
 use Rattle.held.proofs.gains.gains.Given as goal
 
 abbrev pub invariant-loop-i : goal.invariant-loop-i
-invariant-loop-i l = (l.i ≤ length l.dists) × (one_of (gains_at l.k l.lcoords l.ln l.ls (boxes_of l.min l.max) l.dists) l.i ≡ false)
-
-abbrev pub decreases-loop-i : goal.decreases-loop-i
-decreases-loop-i l = length l.dists - l.i
+invariant-loop-i l = one_of (gains_at l.k l.lcoords l.ln l.ls (boxes_of l.min l.max) l.dists) l.i ≡ false

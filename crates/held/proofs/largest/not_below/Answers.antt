@@ -1,20 +1,20 @@
--- What is left of the distances decides as all of them do, until one is above the bound. Assumes nothing.
-use mathlib.Core.Path.{◌≡◌, sym, ◌∙◌}
-use mathlib.Core.Bool.{true, false}
-use native.Mathlib.Omega.{arith}
-use lib.Ieee.{of_bits}
-use Rattle.held.proofs.NoneAbove.{none_above, below_is, not_below_is, one_above, none_left}
+-- One distance is above the bound, or none is and the bound is left to be held against 0. Assumes nothing.
+use mathlib.Core.Path.{◌≡◌, sym, ap, ◌∙◌}
+use mathlib.Core.Bool.{true, false, not}
+use lib.Ieee.{lt, of_bits}
+use Rattle.std.proofs.Common.{rules}
+use Rattle.std.specs.List.{All, Any}
+use Rattle.std.proofs.lemmas.List.Folds.{list_any_none, list_any-from_Any}
+use Rattle.held.proofs.NoneAbove.{below_is, not_below_is, none_is}
 use Rattle.held.proofs.largest.not_below.Goals as goal
 
-pub returns-then-bound-dists : goal.returns-then-bound-dists
-returns-then-bound-dists c = let w = c.loop-i in
-    let a = c.args in
-    let above : none_above a.bound a.dists.now ≡ false = sym w.invariant ∙ one_above a.bound a.dists.now w.i (omega arith) c.if-bound-dists.true in
-    sym (below_is a.bound a.dists.now above)
-
-pub returns : goal.returns
+pub returns-then-not-any : goal.returns-then-not-any
 unfolding of_bits
-returns c = let w = c.loop-i in
-    let a = c.args in
-    let none : none_above a.bound a.dists.now ≡ true = sym w.invariant ∙ none_left a.bound a.dists.now w.i (omega arith) in
-    sym (not_below_is a.bound a.dists.now none)
+returns-then-not-any c = let a = c.args in
+    let each : All (λ d. lt a.bound d ≡ false) a.dists.now = search rules in
+    sym (not_below_is a.bound a.dists.now (none_is a.bound a.dists.now ∙ ap not (list_any_none (lt a.bound) a.dists.now each)))
+
+pub returns-else-not-any : goal.returns-else-not-any
+returns-else-not-any c = let a = c.args in
+    let one : Any (λ d. lt a.bound d ≡ true) a.dists.now = search rules in
+    ap not c.if-not-any.false ∙ sym (below_is a.bound a.dists.now (none_is a.bound a.dists.now ∙ ap not (list_any-from_Any (lt a.bound) a.dists.now one)))
