@@ -11,9 +11,10 @@ fn add_axis<const FIRST: bool>(sums: &mut [f64], q: f64, column: &[f64])
     requires { length column.now ≤ length sums.old }
     ensures { Holds sums.new (length column.now) (λ j. grown (cond FIRST zero₊ (get_or sums.old j nan)) q (get_or column.now j nan)) }
 {
-    for (j, x) in column.iter().enumerate() {
+    // By index: over `column.iter()` the machine code gets an instruction more, and the loops behind it were measured slower where they came to lie.
+    for j in 0..column.len() {
         let sum = if FIRST { 0.0 } else { sums[j] };
-        sums[j] = sum + metric::square(q, *x);
+        sums[j] = sum + metric::square(q, column[j]);
     }
 }
 
