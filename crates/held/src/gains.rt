@@ -4,44 +4,31 @@ ghost use Rattle.metric.specs.Flat.{boxes_of};
 ghost use Rattle.metric.specs.Lent.{HoldsPlace, point_at};
 ghost use Rattle.held.specs.Apart.{apart, Places, gains_at, one_of};
 
+use cursor::Tree;
+use metric::Boxes;
+
 // The squared distance of the left place p to the right box.
-fn apart<'a>(
-    k: usize,
-    lcoords: &[f64],
-    ln: usize,
-    p: usize,
-    min: &'a [f64; 8],
-    max: &'a [f64; 8],
-) -> f64
-    requires { (k ≤ 4) × HoldsPlace k lcoords.now ln p }
-    ensures { result ≡ apart k (boxes_of min.now max.now) (point_at lcoords.now ln p) }
+fn apart(k: usize, left: &Tree, p: usize, boxes: &Boxes) -> f64
+    requires { (k ≤ 4) × HoldsPlace k left.now.coords.now (length left.now.items.now) p }
+    ensures { result ≡ apart k (boxes_of boxes.now.min boxes.now.max) (point_at left.now.coords.now (length left.now.items.now) p) }
 {
     let mut sum = 0.0;
     for d in 0..k {
         let e = 4 + d;
-        let at = d * ln + p;
-        let x = lcoords[at];
-        let side = metric::lowered(max[e], metric::raised(min[e], x));
+        let x = left.coords[d * left.items.len() + p];
+        let side = metric::lowered(boxes.max[e], metric::raised(boxes.min[e], x));
         sum += metric::square(x, side);
     }
     sum
 }
 
 // The right box is nearer to a left place, from ls on, than what it holds.
-pub fn gains<'a>(
-    k: usize,
-    lcoords: &[f64],
-    ln: usize,
-    ls: usize,
-    min: &'a [f64; 8],
-    max: &'a [f64; 8],
-    dists: &[f64],
-) -> bool
-    requires { Places k lcoords.now ln ls (length dists.now) }
-    ensures { result ≡ one_of (gains_at k lcoords.now ln ls (boxes_of min.now max.now) dists.now) (length dists.now) }
+pub fn gains(k: usize, left: &Tree, ls: usize, boxes: &Boxes, dists: &[f64]) -> bool
+    requires { Places k left.now.coords.now (length left.now.items.now) ls (length dists.now) }
+    ensures { result ≡ one_of (gains_at k left.now.coords.now (length left.now.items.now) ls (boxes_of boxes.now.min boxes.now.max) dists.now) (length dists.now) }
 {
     for (i, held) in dists.iter().enumerate() {
-        if apart(k, lcoords, ln, ls + i, min, max) < *held {
+        if apart(k, left, ls + i, boxes) < *held {
             return true;
         }
     }
