@@ -1,14 +1,8 @@
--- What a visit is lent of the left tree and of the distances held. Assumes nothing.
-use Rattle.std.specs.Prelude.{List, [], ℕ, ◌≤◌, length, get_or, Float}
-use Rattle.written.specs.Boxes.{Trees}
+-- What a visit is lent of the distances held. Assumes nothing.
+use Rattle.std.specs.Prelude.{List, ℕ, ◌≤◌, length, get_or, Float}
 use Rattle.cursor.specs.Held.{node_of}
 use Rattle.steps.specs.declared.nodes.Nodes.{Nodes}
-use Rattle.steps.specs.Lent.{stemless}
 use Rattle.steps.specs.Standing.{Within}
-
--- where only the axes and the left tree's starts play a part
-abbrev pub left_starts : (K : ℕ) → (lstarts : List ℕ) → Trees
-left_starts K lstarts = stemless K lstarts [] [] [] [] []
 
 -- the distances of the left span can be read
 pub record HeldUnder (lstarts : List ℕ) (distances : List Float) (at : Nodes) : Type 0 where

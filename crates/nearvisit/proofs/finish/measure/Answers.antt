@@ -5,7 +5,7 @@ use Rattle.written.specs.Boxes.{Trees, Boxes}
 use Rattle.written.specs.NodePairs.{NodePair, area}
 use Rattle.metric.specs.Flat.{boxes_of}
 use Rattle.leaf.specs.Lent.{LeafPair}
-use Rattle.steps.specs.Lent.{stemless}
+use Rattle.cursor.specs.Lent.{lent_trees}
 use Rattle.steps.specs.Standing.{pair_at}
 use Rattle.steps.proofs.PlacesRead.{PlacesRead, leaves_read}
 use Rattle.nearvisit.proofs.NoGain.{no_gain}
@@ -14,20 +14,20 @@ use Rattle.nearvisit.proofs.finish.measure.Goals as goal
 
 pub returns-then-not-gains : goal.returns-then-not-gains
 returns-then-not-gains c =
-    let lent : Trees = let a = c.args in stemless a.k a.lstarts.now a.litems.now a.lcoords.now a.rstarts.now a.ritems.now a.rcoords.now in
+    let lent : Trees = lent_trees c.args.trees.now in
     let here : Boxes → NodePair = λ b. pair_at c.args.at b in
     let read : (b : Boxes) → PlacesRead lent (here b) (area lent (here b)) c.start_of-ls.result c.start_of-lend.result c.start_of-rs.result c.start_of-rend.result = λ b. record { pairs = refl; left_from = c.start_of-ls.ensures; left_to = c.start_of-lend.ensures; right_from = c.start_of-rs.ensures; right_to = c.start_of-rend.ensures } in
-    let leaves : let a = c.args in LeafPair a.k a.litems.now a.lcoords.now c.start_of-ls.result c.start_of-lend.result a.ritems.now a.rcoords.now c.start_of-rs.result c.start_of-rend.result = leaves_read lent (here (boxes_of [] [])) (read (boxes_of [] [])) c.requires.leaves.pair in
+    let leaves : let a = c.args in LeafPair a.trees.now.k a.trees.now.left.items.now a.trees.now.left.coords.now c.start_of-ls.result c.start_of-lend.result a.trees.now.right.items.now a.trees.now.right.coords.now c.start_of-rs.result c.start_of-rend.result = leaves_read lent (here (boxes_of [] [])) (read (boxes_of [] [])) c.requires.leaves.pair in
     let a = c.args in
-    let b = boxes_of a.min.now a.max.now in
+    let b = boxes_of a.boxes.now.min a.boxes.now.max in
     no_gain lent (here b) a.items.now a.dists.now (read b) leaves c.requires.answering (boxes_of [] []) c.requires.box_no_farther (sym c.gains.ensures ∙ c.if-not-gains.true)
 
 pub returns : goal.returns
 returns c =
-    let lent : Trees = let a = c.args in stemless a.k a.lstarts.now a.litems.now a.lcoords.now a.rstarts.now a.ritems.now a.rcoords.now in
+    let lent : Trees = lent_trees c.args.trees.now in
     let here : Boxes → NodePair = λ b. pair_at c.args.at b in
     let read : (b : Boxes) → PlacesRead lent (here b) (area lent (here b)) c.start_of-ls.result c.start_of-lend.result c.start_of-rs.result c.start_of-rend.result = λ b. record { pairs = refl; left_from = c.start_of-ls.ensures; left_to = c.start_of-lend.ensures; right_from = c.start_of-rs.ensures; right_to = c.start_of-rend.ensures } in
-    let leaves : let a = c.args in LeafPair a.k a.litems.now a.lcoords.now c.start_of-ls.result c.start_of-lend.result a.ritems.now a.rcoords.now c.start_of-rs.result c.start_of-rend.result = leaves_read lent (here (boxes_of [] [])) (read (boxes_of [] [])) c.requires.leaves.pair in
+    let leaves : let a = c.args in LeafPair a.trees.now.k a.trees.now.left.items.now a.trees.now.left.coords.now c.start_of-ls.result c.start_of-lend.result a.trees.now.right.items.now a.trees.now.right.coords.now c.start_of-rs.result c.start_of-rend.result = leaves_read lent (here (boxes_of [] [])) (read (boxes_of [] [])) c.requires.leaves.pair in
     let a = c.args in
     let lent-last = c.update_leaf.new in
     leaf_put_back lent (here (boxes_of [] [])) a.items.now lent-last.items a.dists.now lent-last.dists c.start_of-ls.result c.start_of-lend.result c.start_of-rs.result c.start_of-rend.result (read (boxes_of [] [])) leaves c.requires.answering c.items-1.given.0 c.dists-1.given.0 c.update_leaf.ensures
