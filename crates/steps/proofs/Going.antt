@@ -1,10 +1,11 @@
 -- The loop's invariant, for any walk: what is done and what waits come to what the whole walk does. Assumes nothing.
-use mathlib.Core.Path.{◌≡◌, refl, sym, ap, ◌∙◌, subst}
+use mathlib.Core.Path.{◌≡◌, refl, sym, ap, ◌∙◌, subst, subst₂}
 use mathlib.Core.List.{List, [], ◌∷◌}
 use mathlib.Core.Bool.{Bool, true, false}
 use Prim.Native.Nat.{ℕ, suc, ◌+◌, ◌-◌, ◌≤◌, ◌<◌}
 use native.Mathlib.Omega.{arith}
 use lib.ListN.{length}
+use Rattle.std.specs.Prelude.{Option, Some, None}
 use Rattle.written.specs.LentTree.{axis}
 use Rattle.written.specs.Boxes.{Trees, Boxes, everywhere}
 use Rattle.written.specs.NodePairs.{NodePair, root_pair, stem_levels}
@@ -17,6 +18,7 @@ use Rattle.cursor.specs.Held.{node_of, root_over}
 use Rattle.steps.specs.declared.nodes.Nodes.{Nodes}
 use Rattle.steps.specs.declared.waiting.Waiting.{Waiting}
 use Rattle.steps.specs.declared.waiting.Waiting.TheVariants.{Half, Restore}
+use Rattle.steps.specs.Popping.{nowhere}
 use Rattle.steps.specs.Standing.{pair_at}
 use Rattle.steps.proofs.Halves.{Order, slot_of, put, waiting_boxes}
 use Rattle.steps.proofs.Waits.{view}
@@ -83,3 +85,40 @@ module _ {j : Trees} {W : Type 0} {k : Walk j W} {all : W} {at : Nodes} {b : Box
   still_below f rises g =
       let y : W = k.walks (pair_at at b) w in
       subst (λ (z : W). f w < f z) g.owes (omega (arith, rises (pair_at at b) w, resume_grows k f (λ s z. omega (arith, rises s z)) b (view len stack) y))
+
+-- ---- the node pair at hand, as the code holds it
+
+abbrev pub at_of : Option Nodes → Nodes
+at_of None = record { left = nowhere; right = nowhere }
+at_of (Some at) = at
+
+abbrev pub here_of : Option Nodes → Bool
+here_of None = false
+here_of (Some at) = true
+
+module _ {j : Trees} {W : Type 0} {k : Walk j W} {all : W} {b : Boxes} {w : W} {stack : List Waiting} {len : ℕ} where
+  pub at_some : {next : Option Nodes} {at : Nodes} → next ≡ Some at → Going k all (at_of next) b w stack len (here_of next) → Going k all at b w stack len true
+  at_some e g = subst (λ (n : Option Nodes). Going k all (at_of n) b w stack len (here_of n)) e g
+
+  pub at_none : {next : Option Nodes} → next ≡ None → Going k all (at_of next) b w stack len (here_of next) → Going k all (at_of None) b w stack len false
+  at_none e g = subst (λ (n : Option Nodes). Going k all (at_of n) b w stack len (here_of n)) e g
+
+  pub at_any : {next : Option Nodes} → next ≡ None → Going k all (at_of None) b w stack len false → Going k all (at_of next) b w stack len (here_of next)
+  at_any e g = subst (λ (n : Option Nodes). Going k all (at_of n) b w stack len (here_of n)) (sym e) g
+
+  -- where none is at hand, it does not matter which it was
+  pub none_left : {at : Nodes} → Going k all at b w stack len false → Going k all (at_of None) b w stack len false
+  none_left g = record {
+    owes = g.owes;
+    size = g.size;
+    sized = g.sized;
+    deep = g.deep;
+    good = λ q. absurd (let z : ◌≡◌ {A = ℕ} 0 1 = cc in omega arith);
+    depth = λ q. absurd (let z : ◌≡◌ {A = ℕ} 0 1 = cc in omega arith);
+    waits = g.waits;
+  }
+
+module _ {j : Trees} {W : Type 0} {k : Walk j W} {all : W} {at : Nodes} {b : Boxes} {w : W} {stack : List Waiting} {len : ℕ} {here : Bool} where
+  -- the same stack, by another name
+  pub restacked : {s : List Waiting} {n : ℕ} → s ≡ stack → n ≡ len → Going k all at b w stack len here → Going k all at b w s n here
+  restacked e f g = subst₂ (λ (s : List Waiting) (n : ℕ). Going k all at b w s n here) (sym e) (sym f) g

@@ -7,7 +7,7 @@ use Rattle.steps.specs.declared.waiting.Waiting.{Waiting}
 use Rattle.steps.specs.declared.waiting.Waiting.TheVariants.{Half}
 
 -- what is read past the end of the array
-abbrev nowhere : Cursor
+abbrev pub nowhere : Cursor
 nowhere = record { stem = record { 0 = 0 }; first = record { 0 = 0 }; end = record { 0 = 0 }; level = 0; remaining = 0 }
 
 abbrev pub blank : Waiting

@@ -13,7 +13,9 @@ use Rattle.cursor.specs.Held.{side_of}
 use Rattle.steps.proofs.Visiting.{SplitsOn, side_picked}
 use Rattle.radiusvisit.specs.declared.moves.Fate.{Fate as Held}
 use Rattle.radiusvisit.specs.declared.moves.Fate.TheVariants.{Measured, RuledOut, Whole}
-use Rattle.radiusvisit.specs.declared.moves.Move.TheVariants.{End, Split}
+use Rattle.steps.specs.declared.splitting.Move.TheVariants.{End, Split}
+use Rattle.steps.specs.Standing.{side_by}
+use Rattle.cursor.specs.declared.lent.Side.{Side as HeldSide}
 use Rattle.radiusvisit.specs.Moves.{fate_of, move_by, move_of}
 use Rattle.radiusvisit.specs.Ending.{MayEnd}
 
@@ -56,14 +58,14 @@ module _ (j : Trees) (edge : Edge) (radius : Float) (counting : Bool) (s : NodeP
       go false p false q false l e = let z : ◌≡◌ {A = ℕ} 0 1 = cc in absurd (omega arith)
 
   -- the visit splits that side, which has a level left
-  abbrev Splits : ℕ → Type 0
+  abbrev Splits : HeldSide → Type 0
   Splits = SplitsOn j s (step j edge radius counting s)
 
-  splits_visit : {side : ℕ} → visit j (ruled_out j edge radius s) (taken_whole j edge radius counting s) s ≡ split j (picked s) s → side_of side ≡ picked s → at_leaves ≡ false → Splits side
+  splits_visit : {side : HeldSide} → visit j (ruled_out j edge radius s) (taken_whole j edge radius counting s) s ≡ split j (picked s) s → side_of side ≡ picked s → at_leaves ≡ false → Splits side
   unfolding step
   splits_visit e p l = record { splits_so = e; side_is = p; no_leaves = l }
 
-  pub chosen_split : (side : ℕ) → Split side ≡ move_of j edge radius counting s → Splits side
+  pub chosen_split : (side : HeldSide) → Split side ≡ move_of j edge radius counting s → Splits side
   chosen_split side e = go (ruled_out j edge radius s) refl (taken_whole j edge radius counting s) refl at_leaves refl e
     where
       go : (out : Bool) → ruled_out j edge radius s ≡ out → (all : Bool) → taken_whole j edge radius counting s ≡ all → (leaf : Bool) → at_leaves ≡ leaf → Split side ≡ move_by out all leaf (splits_right s) → Splits side
@@ -71,5 +73,5 @@ module _ (j : Trees) (edge : Edge) (radius : Float) (counting : Bool) (s : NodeP
       go false p true q leaf l e = let z : ◌≡◌ {A = ℕ} 0 1 = cc in absurd (omega arith)
       go false p false q true l e = let z : ◌≡◌ {A = ℕ} 0 1 = cc in absurd (omega arith)
       go false p false q false l e =
-          let k : side ≡ cond (splits_right s) 1 0 = cc in
+          let k : side ≡ side_by (splits_right s) = cc in
           splits_visit (rw (p, q, l) refl) (ap side_of k ∙ side_picked (splits_right s)) l

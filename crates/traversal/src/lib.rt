@@ -4,125 +4,105 @@
 ghost use Rattle.std.specs.Prelude.{◌≡◌};
 ghost use Rattle.written.specs.Answers.{Accepts};
 ghost use Rattle.metric.specs.Edges.{edge_of};
+ghost use Rattle.cursor.specs.Lent.{lent_trees};
 ghost use Rattle.rooms.specs.Rooms.{SameRooms};
-ghost use Rattle.steps.specs.Lent.{trees_of, rooms_of};
+ghost use Rattle.steps.specs.Lent.{rooms_of};
 ghost use Rattle.radiusvisit.specs.Work.{work_of};
 ghost use Rattle.traversal.specs.Walked.{walked};
 
-use metric::Boxes;
+use cursor::Trees;
+use metric::{Boxes, Within};
 use radiusvisit::finish::finish;
-use radiusvisit::moves::{Move, choose};
+use radiusvisit::moves::choose;
 use steps::Tally;
 use steps::descent::descend;
-use steps::nodes::{roots, slot};
-use steps::waiting::{Popped, Waiting, pop, top_of};
+use steps::nodes::{Nodes, slot};
+use steps::splitting::Move;
+use steps::waiting::{Stack, Waiting};
 
 // Each turn visits the node pair at hand, or takes one waiting entry; when nothing waits, the walk is over.
-pub fn walk<'a>(
-    k: u32,
-    radius: f64,
-    under: bool,
+pub fn walk(
+    trees: &Trees,
+    within: Within,
     counting: bool,
-    lstarts: &[u32],
-    lstems: &'a [f64],
-    litems: &[u32],
-    lcoords: &[f64],
-    rstarts: &[u32],
-    rstems: &'a [f64],
-    ritems: &[u32],
-    rcoords: &[f64],
     lout: &mut [u32],
     rout: &mut [u32],
     dout: &mut [f64],
 ) -> Tally
-    requires accepts { Accepts (trees_of k lstarts.now lstems.now litems.now lcoords.now rstarts.now rstems.now ritems.now rcoords.now) }
+    requires accepts { Accepts (lent_trees trees.now) }
     requires same_rooms { SameRooms lout.old rout.old dout.old }
-    ensures { work_of result lout.new rout.new dout.new ≡ walked (trees_of k lstarts.now lstems.now litems.now lcoords.now rstarts.now rstems.now ritems.now rcoords.now) (edge_of under) radius counting (rooms_of lout.old rout.old dout.old) }
+    ensures { work_of result lout.new rout.new dout.new ≡ walked (lent_trees trees.now) (edge_of within.edge) within.radius counting (rooms_of lout.old rout.old dout.old) }
 {
-    let mut at = roots(lstarts, rstarts);
-    let mut b = Boxes::everywhere();
-    let mut t = Tally::none();
-    let mut stack = [Waiting::Restore {
-        side: 0,
-        axis: 0,
-        min: 0.0,
-        max: 0.0,
-    }; 25];
-    let mut len: usize = 0;
-    let mut here = true;
+    let mut next = Some(Nodes::roots(trees));
+    let mut boxes = Boxes::everywhere();
+    let mut tally = Tally::none();
+    let mut stack = Stack::empty();
     loop {
-        if here {
-            t = t.visited();
-            let m = choose(k as usize, radius, under, counting, at, &b.min, &b.max);
-            match m {
-                Move::End(fate) => {
-                    t = finish(
-                        fate, k as usize, radius, under, counting, lstarts, litems, lcoords,
-                        rstarts, ritems, rcoords, at, t, &mut *lout, &mut *rout, &mut *dout,
-                    );
-                    here = false;
-                }
-                Move::Split(side) => {
-                    let d = descend(k, lstems, rstems, side, at);
-                    let near = d.near;
-                    let far = d.far;
-                    let axis = d.axis;
-                    let pivot = d.pivot;
-                    if !metric::is_top(pivot) {
-                        let i = slot(side, axis);
-                        let min = b.min[i];
-                        let max = b.max[i];
-                        stack[len] = Waiting::Half {
-                            side,
-                            axis,
-                            min,
-                            max,
-                            pivot,
-                            at: far,
-                        };
-                        len += 1;
-                        b.max[i] = metric::lowered(max, pivot);
+        match next {
+            Some(at) => {
+                tally = tally.visited();
+                match choose(trees.k, within, counting, at, &boxes) {
+                    Move::End(fate) => {
+                        tally = finish(
+                            fate, trees, within, counting, at, tally, &mut *lout, &mut *rout,
+                            &mut *dout,
+                        );
+                        next = None;
                     }
-                    at = near;
+                    Move::Split(side) => {
+                        let down = descend(trees, side, at);
+                        next = Some(down.near);
+                        if !metric::is_top(down.pivot) {
+                            let i = slot(side, down.axis);
+                            let min = boxes.min[i];
+                            let max = boxes.max[i];
+                            stack.push(Waiting::Half {
+                                side,
+                                axis: down.axis,
+                                min,
+                                max,
+                                pivot: down.pivot,
+                                at: down.far,
+                            });
+                            boxes.max[i] = metric::lowered(max, down.pivot);
+                        }
+                    }
                 }
             }
-        } else {
-            let top = stack[top_of(len)];
-            let Popped::Entry(w) = pop(len, top) else {
-                return t;
-            };
-            len -= 1;
-            match w {
-                Waiting::Half {
-                    side,
-                    axis,
-                    min,
-                    max,
-                    pivot,
-                    at: far,
-                } => {
-                    let i = slot(side, axis);
-                    b.min[i] = metric::raised(min, pivot);
-                    b.max[i] = max;
-                    stack[len] = Waiting::Restore {
+            None => {
+                let Some(waiting) = stack.pop() else {
+                    return tally;
+                };
+                match waiting {
+                    Waiting::Half {
                         side,
                         axis,
                         min,
                         max,
-                    };
-                    len += 1;
-                    at = far;
-                    here = true;
-                }
-                Waiting::Restore {
-                    side,
-                    axis,
-                    min,
-                    max,
-                } => {
-                    let i = slot(side, axis);
-                    b.min[i] = min;
-                    b.max[i] = max;
+                        pivot,
+                        at: far,
+                    } => {
+                        let i = slot(side, axis);
+                        boxes.min[i] = metric::raised(min, pivot);
+                        boxes.max[i] = max;
+                        stack.push(Waiting::Restore {
+                            side,
+                            axis,
+                            min,
+                            max,
+                        });
+                        next = Some(far);
+                    }
+                    Waiting::Restore {
+                        side,
+                        axis,
+                        min,
+                        max,
+                    } => {
+                        let i = slot(side, axis);
+                        boxes.min[i] = min;
+                        boxes.max[i] = max;
+                    }
                 }
             }
         }

@@ -7,8 +7,9 @@ use Rattle.written.specs.Answers.{Accepts}
 use Rattle.metric.specs.Edges.{edge_of}
 use Rattle.metric.specs.Flat.{boxes_of}
 use Rattle.rooms.specs.Rooms.{SameRooms}
-use Rattle.steps.specs.Lent.{trees_of, rooms_of}
-use Rattle.steps.proofs.Going.{Going}
+use Rattle.cursor.specs.Lent.{lent_trees}
+use Rattle.steps.specs.Lent.{rooms_of}
+use Rattle.steps.proofs.Going.{Going, at_of, here_of}
 use Rattle.radiusvisit.specs.Work.{work_of}
 use Rattle.traversal.specs.Walked.{walked}
 use Rattle.traversal.proofs.Lengths.{Alike}
@@ -20,14 +21,14 @@ abbrev pub idle : Bool → ℕ
 idle true = 0
 idle false = 1
 
-abbrev pub invariant-loop-here : goal.invariant-loop-here
-invariant-loop-here l =
-    let j : Trees = trees_of l.k l.lstarts l.lstems l.litems l.lcoords l.rstarts l.rstems l.ritems l.rcoords in
+abbrev pub invariant-loop-next : goal.invariant-loop-next
+invariant-loop-next l =
+    let j : Trees = lent_trees l.trees in
     Accepts j
     × SameRooms l.initial.lout l.initial.rout l.initial.dout
     × Alike (rooms_of l.initial.lout l.initial.rout l.initial.dout) (rooms_of l.lout l.rout l.dout)
-    × Going (radius_walk j (edge_of l.under) l.radius l.counting) (walked j (edge_of l.under) l.radius l.counting (rooms_of l.initial.lout l.initial.rout l.initial.dout)) l.at (boxes_of l.b.min l.b.max) (work_of l.t l.lout l.rout l.dout) l.stack l.len l.here
+    × Going (radius_walk j (edge_of l.within.edge) l.within.radius l.counting) (walked j (edge_of l.within.edge) l.within.radius l.counting (rooms_of l.initial.lout l.initial.rout l.initial.dout)) (at_of l.next) (boxes_of l.boxes.min l.boxes.max) (work_of l.tally l.lout l.rout l.dout) l.stack.entries l.stack.len (here_of l.next)
 
-abbrev pub decreases-loop-here : goal.decreases-loop-here
-decreases-loop-here l =
-    3 * ((walk_totals (trees_of l.k l.lstarts l.lstems l.litems l.lcoords l.rstarts l.rstems l.ritems l.rcoords) (edge_of l.under) l.radius l.counting).visits - l.t.visits) + l.len + idle l.here
+abbrev pub decreases-loop-next : goal.decreases-loop-next
+decreases-loop-next l =
+    3 * ((walk_totals (lent_trees l.trees) (edge_of l.within.edge) l.within.radius l.counting).visits - l.tally.visits) + l.stack.len + idle (here_of l.next)
