@@ -20,7 +20,6 @@ use Rattle.leafnearest.specs.Answers.{answers, Answering}
 use Rattle.steps.specs.declared.nodes.Nodes.{Nodes}
 use Rattle.steps.specs.declared.tally.Tally.{Tally}
 use Rattle.steps.specs.declared.waiting.Waiting.{Waiting}
-use Rattle.steps.specs.Lent.{stemless}
 use Rattle.steps.specs.Standing.{pair_at}
 use Rattle.steps.specs.Counted.{totals_held, visited}
 use Rattle.steps.specs.Ending.{Leaves}
@@ -32,8 +31,9 @@ use Rattle.steps.proofs.Visiting.{SplitsOn, good_here, turn_end}
 use Rattle.held.specs.Apart.{BoxNoFarther}
 use Rattle.held.proofs.BoxFar.{box_no_farther}
 use Rattle.nearvisit.specs.declared.moves.Fate.{Fate as Fated}
-use Rattle.nearvisit.specs.declared.moves.Move.{Move}
-use Rattle.nearvisit.specs.declared.moves.Move.TheVariants.{End, Split}
+use Rattle.steps.specs.declared.splitting.Move.{Move}
+use Rattle.steps.specs.declared.splitting.Move.TheVariants.{End, Split}
+use Rattle.cursor.specs.declared.lent.Side.{Side as HeldSide}
 use Rattle.nearvisit.specs.Lent.{HeldUnder}
 use Rattle.nearvisit.specs.Moves.{fate_of, move_by, move_of, ruled_out_by}
 use Rattle.nearvisit.specs.Held.{Held, held_of, after, FewPairs}
@@ -50,8 +50,8 @@ held_begun j t items distances e c = λ i. record { answers = c i; totals = e.1 
 pub tally_examined : (t t' : Tally) (items : List ℕ) (distances : List Float) → Examined t t' → held_of t' items distances ≡ examined (held_of t items distances)
 tally_examined t t' items distances e = λ i. record { answers = answers items distances; totals = e.1 i }
 
--- neither stems nor boxes play a part in how a visit ends
-after_same : (j : Trees) (k : Fate) (s : NodePair) (b : Boxes) (w : Held) → after (stemless j.axes j.left.starts j.left.items j.left.coords j.right.starts j.right.items j.right.coords) k (record { left = s.left; right = s.right; boxes = b }) w ≡ after j k s w
+-- boxes play no part in how a visit ends
+after_same : (j : Trees) (k : Fate) (s : NodePair) (b : Boxes) (w : Held) → after j k (record { left = s.left; right = s.right; boxes = b }) w ≡ after j k s w
 unfolding update
 after_same j measured s b w = refl
 after_same j ruled s b w = refl
@@ -68,8 +68,7 @@ module _ (j : Trees) (ok : Accepts j) {all : Held} {at : Nodes} {b : Boxes} {u :
   pub held_here : HeldUnder j.left.starts distances at
   held_here = record { left_within = leaves_here.left_within; held_read = omega (arith, leaves_here.pair.left.inside, lent.1) }
 
-  -- stems play no part
-  pub box_here : BoxNoFarther (stemless j.axes j.left.starts j.left.items j.left.coords j.right.starts j.right.items j.right.coords) (pair_at at b)
+  pub box_here : BoxNoFarther j (pair_at at b)
   unfolding distance
   box_here = box_no_farther j ok (levels_left (pair_at at b)) (pair_at at b) (good_here ok g)
 
@@ -77,17 +76,17 @@ module _ (j : Trees) (ok : Accepts j) {all : Held} {at : Nodes} {b : Boxes} {u :
   asked : ruled_out_by j distances (pair_at at b) ≡ near_ruled_out j (answers items distances) (pair_at at b)
   asked = ruled_out_is j items distances (pair_at at b) (omega (arith, lent.0, lent.1)) (omega (arith, leaves_here.left_within.rising, held_here.held_read))
 
-  abbrev chooses : Bool → Move
+  abbrev chooses : Bool → Move Fated
   chooses out = move_by out (is_leaf (pair_at at b).left && is_leaf (pair_at at b).right) (splits_right (pair_at at b))
 
-  pub ends_with : {f : Fated} {m : Move} → m ≡ End f → m ≡ move_of j distances (pair_at at b) → near_step j (answers items distances) (pair_at at b) ≡ ends (fate_of f)
+  pub ends_with : {f : Fated} {m : Move Fated} → m ≡ End f → m ≡ move_of j distances (pair_at at b) → near_step j (answers items distances) (pair_at at b) ≡ ends (fate_of f)
   ends_with {f} p q = chosen_end j (answers items distances) (pair_at at b) f (sym p ∙ q ∙ ap chooses asked)
 
-  pub splits_with : {side : ℕ} {m : Move} → m ≡ Split side → m ≡ move_of j distances (pair_at at b) → SplitsOn j (pair_at at b) (near_step j (answers items distances) (pair_at at b)) side
+  pub splits_with : {side : HeldSide} {m : Move Fated} → m ≡ Split side → m ≡ move_of j distances (pair_at at b) → SplitsOn j (pair_at at b) (near_step j (answers items distances) (pair_at at b)) side
   splits_with {side} p q = chosen_split j (answers items distances) (pair_at at b) side (sym p ∙ q ∙ ap chooses asked)
 
-  pub turn_finish : {f : Fated} {m : Move} (w₁ : Held) {w' : Held} → m ≡ End f → m ≡ move_of j distances (pair_at at b) → w₁ ≡ examined w
-      → w' ≡ after (stemless j.axes j.left.starts j.left.items j.left.coords j.right.starts j.right.items j.right.coords) (fate_of f) (pair_at at (boxes_of [] [])) w₁
+  pub turn_finish : {f : Fated} {m : Move Fated} (w₁ : Held) {w' : Held} → m ≡ End f → m ≡ move_of j distances (pair_at at b) → w₁ ≡ examined w
+      → w' ≡ after j (fate_of f) (pair_at at (boxes_of [] [])) w₁
       → Going (nearest_walk j) all at b w' stack len false
   turn_finish {f} w₁ p q v e =
       turn_end ok g (e ∙ after_same j (fate_of f) (pair_at at b) (boxes_of [] []) w₁ ∙ ap (after j (fate_of f) (pair_at at b)) v ∙ sym (from_end j (pair_at at b) (fate_of f) w (ends_with p q)))

@@ -4,139 +4,100 @@
 ghost use Rattle.std.specs.Prelude.{◌≡◌, true, false, length, replicate};
 ghost use Rattle.written.specs.Nearest.{unset, no_points};
 ghost use Rattle.written.specs.Answers.{Accepts, near_rooms_agree, near_room_ok};
+ghost use Rattle.cursor.specs.Lent.{lent_trees};
 ghost use Rattle.leafnearest.specs.Answers.{answers, Answering};
-ghost use Rattle.steps.specs.Lent.{trees_of};
 ghost use Rattle.nearvisit.specs.Held.{held_of};
 ghost use Rattle.nearest.specs.Lent.{near_rooms_of};
 ghost use Rattle.nearest.specs.Walked.{walked};
 ghost use Rattle.nearest.specs.Executed.{outcome_of, executed};
 
+use cursor::Trees;
 use held::beginning::clear;
 use metric::Boxes;
 use nearvisit::finish::finish;
-use nearvisit::moves::{Move, choose};
+use nearvisit::moves::choose;
 use steps::Tally;
 use steps::descent::descend;
-use steps::nodes::{roots, slot};
-use steps::waiting::{Popped, Waiting, pop, top_of};
+use steps::nodes::{Nodes, slot};
+use steps::splitting::Move;
+use steps::waiting::{Stack, Waiting};
 
 // The radius walk's loop, but the far half is at hand first and the near half waits; the answers held decide what is ruled out.
-fn walk<'a>(
-    k: u32,
-    lstarts: &[u32],
-    lstems: &'a [f64],
-    litems: &[u32],
-    lcoords: &[f64],
-    rstarts: &[u32],
-    rstems: &'a [f64],
-    ritems: &[u32],
-    rcoords: &[f64],
-    items: &mut [u32],
-    dists: &mut [f64],
-) -> Tally
-    requires accepts { Accepts (trees_of k lstarts.now lstems.now litems.now lcoords.now rstarts.now rstems.now ritems.now rcoords.now) }
-    requires rcoords_value { no_points (trees_of k lstarts.now lstems.now litems.now lcoords.now rstarts.now rstems.now ritems.now rcoords.now) ≡ false }
-    requires answering { Answering 0 (length litems.now) items.old dists.old × (answers items.old dists.old ≡ replicate (length litems.now) unset) }
-    ensures { held_of result items.new dists.new ≡ walked (trees_of k lstarts.now lstems.now litems.now lcoords.now rstarts.now rstems.now ritems.now rcoords.now) }
+fn walk(trees: &Trees, items: &mut [u32], dists: &mut [f64]) -> Tally
+    requires accepts { Accepts (lent_trees trees.now) }
+    requires points { no_points (lent_trees trees.now) ≡ false }
+    requires answering { Answering 0 (length trees.now.left.items.now) items.old dists.old × (answers items.old dists.old ≡ replicate (length trees.now.left.items.now) unset) }
+    ensures { held_of result items.new dists.new ≡ walked (lent_trees trees.now) }
 {
-    let mut at = roots(lstarts, rstarts);
-    let mut b = Boxes::everywhere();
-    let mut t = Tally::none();
-    let mut stack = [Waiting::Restore {
-        side: 0,
-        axis: 0,
-        min: 0.0,
-        max: 0.0,
-    }; 25];
-    let mut len: usize = 0;
-    let mut here = true;
+    let mut next = Some(Nodes::roots(trees));
+    let mut boxes = Boxes::everywhere();
+    let mut tally = Tally::none();
+    let mut stack = Stack::empty();
     loop {
-        if here {
-            t = t.visited();
-            let m = choose(k as usize, lstarts, at, &b.min, &b.max, &*dists);
-            match m {
-                Move::End(fate) => {
-                    t = finish(
-                        fate,
-                        k as usize,
-                        lstarts,
-                        litems,
-                        lcoords,
-                        rstarts,
-                        ritems,
-                        rcoords,
-                        at,
-                        &b.min,
-                        &b.max,
-                        t,
-                        &mut *items,
-                        &mut *dists,
-                    );
-                    here = false;
-                }
-                Move::Split(side) => {
-                    let d = descend(k, lstems, rstems, side, at);
-                    let near = d.near;
-                    let far = d.far;
-                    let axis = d.axis;
-                    let pivot = d.pivot;
-                    if metric::is_top(pivot) {
-                        at = near;
-                    } else {
-                        let i = slot(side, axis);
-                        let min = b.min[i];
-                        let max = b.max[i];
-                        stack[len] = Waiting::Half {
-                            side,
-                            axis,
-                            min,
-                            max,
-                            pivot,
-                            at: near,
-                        };
-                        len += 1;
-                        b.min[i] = metric::raised(min, pivot);
-                        at = far;
+        match next {
+            Some(at) => {
+                tally = tally.visited();
+                match choose(trees, at, &boxes, &*dists) {
+                    Move::End(fate) => {
+                        tally = finish(fate, trees, at, &boxes, tally, &mut *items, &mut *dists);
+                        next = None;
+                    }
+                    Move::Split(side) => {
+                        let down = descend(trees, side, at);
+                        if metric::is_top(down.pivot) {
+                            next = Some(down.near);
+                        } else {
+                            let i = slot(side, down.axis);
+                            let min = boxes.min[i];
+                            let max = boxes.max[i];
+                            stack.push(Waiting::Half {
+                                side,
+                                axis: down.axis,
+                                min,
+                                max,
+                                pivot: down.pivot,
+                                at: down.near,
+                            });
+                            boxes.min[i] = metric::raised(min, down.pivot);
+                            next = Some(down.far);
+                        }
                     }
                 }
             }
-        } else {
-            let top = stack[top_of(len)];
-            let Popped::Entry(w) = pop(len, top) else {
-                return t;
-            };
-            len -= 1;
-            match w {
-                Waiting::Half {
-                    side,
-                    axis,
-                    min,
-                    max,
-                    pivot,
-                    at: near,
-                } => {
-                    let i = slot(side, axis);
-                    b.min[i] = min;
-                    b.max[i] = metric::lowered(max, pivot);
-                    stack[len] = Waiting::Restore {
+            None => {
+                let Some(waiting) = stack.pop() else {
+                    return tally;
+                };
+                match waiting {
+                    Waiting::Half {
                         side,
                         axis,
                         min,
                         max,
-                    };
-                    len += 1;
-                    at = near;
-                    here = true;
-                }
-                Waiting::Restore {
-                    side,
-                    axis,
-                    min,
-                    max,
-                } => {
-                    let i = slot(side, axis);
-                    b.min[i] = min;
-                    b.max[i] = max;
+                        pivot,
+                        at: near,
+                    } => {
+                        let i = slot(side, axis);
+                        boxes.min[i] = min;
+                        boxes.max[i] = metric::lowered(max, pivot);
+                        stack.push(Waiting::Restore {
+                            side,
+                            axis,
+                            min,
+                            max,
+                        });
+                        next = Some(near);
+                    }
+                    Waiting::Restore {
+                        side,
+                        axis,
+                        min,
+                        max,
+                    } => {
+                        let i = slot(side, axis);
+                        boxes.min[i] = min;
+                        boxes.max[i] = max;
+                    }
                 }
             }
         }
@@ -144,44 +105,20 @@ fn walk<'a>(
 }
 
 // If a tree holds no points, nothing is written. Else an answer for each left place; beyond them the buffers stay untouched.
-pub fn execute<'a>(
-    k: u32,
-    lstarts: &[u32],
-    lstems: &'a [f64],
-    litems: &[u32],
-    lcoords: &[f64],
-    rstarts: &[u32],
-    rstems: &'a [f64],
-    ritems: &[u32],
-    rcoords: &[f64],
-    items: &mut [u32],
-    dists: &mut [f64],
-) -> Tally
-    requires accepts { Accepts (trees_of k lstarts.now lstems.now litems.now lcoords.now rstarts.now rstems.now ritems.now rcoords.now) }
-    requires dists_value { (near_rooms_agree (near_rooms_of items.old dists.old) ≡ true) × (near_room_ok (trees_of k lstarts.now lstems.now litems.now lcoords.now rstarts.now rstems.now ritems.now rcoords.now) (near_rooms_of items.old dists.old) ≡ true) }
-    ensures { outcome_of result items.new dists.new ≡ executed (trees_of k lstarts.now lstems.now litems.now lcoords.now rstarts.now rstems.now ritems.now rcoords.now) (near_rooms_of items.old dists.old) }
+pub fn execute(trees: &Trees, items: &mut [u32], dists: &mut [f64]) -> Tally
+    requires accepts { Accepts (lent_trees trees.now) }
+    requires rooms_agree { near_rooms_agree (near_rooms_of items.old dists.old) ≡ true }
+    requires room_ok { near_room_ok (lent_trees trees.now) (near_rooms_of items.old dists.old) ≡ true }
+    ensures { outcome_of result items.new dists.new ≡ executed (lent_trees trees.now) (near_rooms_of items.old dists.old) }
 {
-    let n = litems.len();
-    if n == 0 {
-        return Tally::none();
-    }
-    if ritems.len() == 0 {
+    let n = trees.left.items.len();
+    if n == 0 || trees.right.items.is_empty() {
         return Tally::none();
     }
     clear(&mut items[..n], &mut dists[..n]);
-    let mut t = walk(
-        k,
-        lstarts,
-        lstems,
-        litems,
-        lcoords,
-        rstarts,
-        rstems,
-        ritems,
-        rcoords,
-        &mut items[..n],
-        &mut dists[..n],
-    );
-    t.found = n as u64;
-    t
+    let tally = walk(trees, &mut items[..n], &mut dists[..n]);
+    Tally {
+        found: n as u64,
+        ..tally
+    }
 }

@@ -7,8 +7,8 @@ use Rattle.written.specs.Totals.{near_totals}
 use Rattle.written.specs.Answers.{Accepts}
 use Rattle.metric.specs.Flat.{boxes_of}
 use Rattle.leafnearest.specs.Answers.{Answering}
-use Rattle.steps.specs.Lent.{trees_of}
-use Rattle.steps.proofs.Going.{Going}
+use Rattle.cursor.specs.Lent.{lent_trees}
+use Rattle.steps.proofs.Going.{Going, at_of, here_of}
 use Rattle.nearvisit.specs.Held.{held_of}
 use Rattle.nearest.specs.Walked.{walked}
 use Rattle.nearest.proofs.Carrying.{nearest_walk}
@@ -19,14 +19,14 @@ abbrev pub idle : Bool → ℕ
 idle true = 0
 idle false = 1
 
-abbrev pub invariant-loop-here : goal.invariant-loop-here
-invariant-loop-here l =
-    let j : Trees = trees_of l.k l.lstarts l.lstems l.litems l.lcoords l.rstarts l.rstems l.ritems l.rcoords in
+abbrev pub invariant-loop-next : goal.invariant-loop-next
+invariant-loop-next l =
+    let j : Trees = lent_trees l.trees in
     Accepts j
-    × Answering 0 (length l.litems) l.initial.items l.initial.dists
-    × Answering 0 (length l.litems) l.items l.dists
-    × Going (nearest_walk j) (walked j) l.at (boxes_of l.b.min l.b.max) (held_of l.t l.items l.dists) l.stack l.len l.here
+    × Answering 0 (length l.trees.left.items.now) l.initial.items l.initial.dists
+    × Answering 0 (length l.trees.left.items.now) l.items l.dists
+    × Going (nearest_walk j) (walked j) (at_of l.next) (boxes_of l.boxes.min l.boxes.max) (held_of l.tally l.items l.dists) l.stack.entries l.stack.len (here_of l.next)
 
-abbrev pub decreases-loop-here : goal.decreases-loop-here
-decreases-loop-here l =
-    3 * ((near_totals (trees_of l.k l.lstarts l.lstems l.litems l.lcoords l.rstarts l.rstems l.ritems l.rcoords)).visits - l.t.visits) + l.len + idle l.here
+abbrev pub decreases-loop-next : goal.decreases-loop-next
+decreases-loop-next l =
+    3 * ((near_totals (lent_trees l.trees)).visits - l.tally.visits) + l.stack.len + idle (here_of l.next)
