@@ -1,3 +1,5 @@
+pub mod Answering
+pub mod Checking
 pub mod Told
 pub mod Onward
 pub mod Unique

@@ -17,7 +17,8 @@ use Rattle.written.proofs.Limits.{near_visits_bounded, nearest_takes_none_whole}
 use Rattle.written.proofs.Answered.{nearest_means}
 use Rattle.written.proofs.Laws.Tests.{neither, not_both, at_most, equal}
 use Rattle.written.proofs.Laws.Points.{has_points, both_hold}
-use Rattle.join.specs.Told.{answer_of, Result, NearestTold}
+use Rattle.join.specs.Answering.{answer_of}
+use Rattle.join.specs.Told.{Result, NearestTold}
 use Rattle.join.specs.Onward.{nearest_walk}
 use Rattle.join.specs.Demands.{Refused, refused_untouched}
 

@@ -1,14 +1,10 @@
 -- What the public calls answer and leave in the rooms: document 01's answer, for each value of the code's struct. Assumes nothing.
 use Rattle.std.specs.Prelude.{◌≡◌, List, [], Bool, ℕ, Float}
 use Rattle.written.specs.Boxes.{Trees, Edge}
-use Rattle.written.specs.Answers.{Answer, PairRooms, pairs_call, counts_call, NearRooms, near_room_ok, nearest_call}
+use Rattle.written.specs.Answers.{PairRooms, pairs_call, counts_call, NearRooms, near_room_ok, nearest_call}
 use Rattle.steps.specs.Lent.{stemless, rooms_of}
 use Rattle.nearest.specs.Lent.{near_rooms_of}
-use Rattle.join.specs.declared.answer.Answer.{Answer as Held}
-
--- the paper's number, side, found number and totals
-abbrev pub answer_of : Held → Answer
-answer_of a = record { number = a.number; side = a.side; found = a.found; totals = record { visits = a.visits; measured = a.measured; ruled_out = a.ruled; whole = a.whole } }
+use Rattle.join.specs.Answering.{Held, answer_of}
 
 -- a call's answer, with the rooms as it leaves them
 pub record Result (Rooms : Type 0) : Type 0 where

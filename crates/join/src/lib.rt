@@ -1,14 +1,15 @@
-// The joins that callers use: pairs and counts over two lent trees, each "up to" and "under" a radius, and nearest. No function demands anything: what is wrong is refused under its number.
+// The joins that callers use: pairs and counts over two lent trees, each "up to" or "under" a radius, and nearest. No function demands anything: what is wrong is refused.
 #![tactic(auto)]
 
 mod answer;
-mod counts;
+mod checking;
+mod counting;
 mod neighbours;
-mod pairs;
+mod pairing;
 mod spacing;
 
-pub use crate::answer::Answer;
-pub use crate::counts::{counts_under, counts_up_to};
+pub use crate::answer::{Answer, Refusal};
+pub use crate::counting::counts;
 pub use crate::neighbours::nearest;
-pub use crate::pairs::{pairs_under, pairs_up_to};
+pub use crate::pairing::pairs;
 pub use crate::spacing::radius_of;
