@@ -6,10 +6,8 @@ use std::io;
 
 // Every prefix but the whole.
 fn prefixes(rt: &impl Print, job: &[u8]) -> io::Result<()> {
-    let mut n = 0;
-    while n < job.len() {
-        show(rt, b"prefix ", n as u64, &job[..n])?;
-        n += 1;
+    for n in 0..job.len() {
+        show(rt, "prefix", n as u64, &job[..n])?;
     }
     Ok(())
 }
@@ -28,7 +26,7 @@ fn bit(rt: &impl Print, job: &mut [u8], b: usize) -> io::Result<()>
     let i = b / 8;
     let kept = job[i];
     job[i] = flipped(kept, b % 8);
-    let shown = show(rt, b"bit ", b as u64, job);
+    let shown = show(rt, "bit", b as u64, job);
     job[i] = kept;
     shown
 }
@@ -37,10 +35,8 @@ fn bit(rt: &impl Print, job: &mut [u8], b: usize) -> io::Result<()>
 fn bits(rt: &impl Print, job: &mut [u8]) -> io::Result<()>
     requires { length job.old ≤ 131072 }
 {
-    let mut b = 0;
-    while b < 8 * job.len() {
+    for b in 0..8 * job.len() {
         bit(rt, &mut *job, b)?;
-        b += 1;
     }
     Ok(())
 }

@@ -6,15 +6,15 @@
 #![tactic(auto)]
 
 mod changes;
-mod input;
 mod records;
 mod show;
 
+use intake::read_full;
 use std::io;
 
 fn main(rt: HostRuntime) -> io::Result<()> {
     let mut input = [0u8; 131072];
-    let n = crate::input::read_full(&mut rt.stdin(), &mut input)?;
+    let n = read_full(&mut rt.stdin(), &mut input)?;
     if crate::records::all(&rt, &input[..n])? {
         crate::records::first(&rt, &mut input[..n])?;
     }

@@ -1,46 +1,31 @@
 // The records of the input.
-ghost use Rattle.std.specs.Prelude.{◌≤◌, length};
-ghost use Rattle.jobs.specs.Ends.{Ends};
+ghost use Rattle.std.specs.Prelude.{◌≡◌, ◌+◌, ◌++◌, ◌≤◌, IfSome, length, take};
 
 use crate::changes::changed;
 use crate::show::show;
 use reading::u32_at;
 use std::io;
 
-#[derive(Clone, Copy)]
-pub enum End {
-    At(usize),
-    Cut,
-}
-
-// Where the record from a place on ends; its job begins 4 bytes on.
-fn end_of(s: &[u8], at: usize) -> End
-    requires { at ≤ length s.now }
-    ensures { Ends at (length s.now) result }
+// The job of the first record, and what follows it; none where the input ends before the record does.
+fn record(s: &[u8]) -> Option<(&[u8], &[u8])>
+    ensures parts { IfSome result (λ r. s.now ≡ take 4 s.now ++ (r.0.now ++ r.1.now)) }
+    ensures len { IfSome result (λ r. 4 + (length r.0.now + length r.1.now) ≡ length s.now) }
 {
-    if s.len() - at < 4 {
-        return End::Cut;
-    }
-    let job = at + 4;
-    let n = u32_at(s, at) as usize;
-    if s.len() - job < n {
-        return End::Cut;
-    }
-    End::At(job + n)
+    let (size, rest) = s.split_at_checked(4)?;
+    rest.split_at_checked(u32_at(size, 0) as usize)
 }
 
 // Every job in order; whether the input ends where a record does.
 pub fn all(rt: &impl Print, s: &[u8]) -> io::Result<bool> {
-    let mut at = 0;
+    let mut rest = s;
     let mut i = 0;
-    while at < s.len() {
-        let End::At(end) = end_of(s, at) else {
+    while !rest.is_empty() {
+        let Some((job, after)) = record(rest) else {
             rt.println("cut short")?;
             return Ok(false);
         };
-        let job = at + 4;
-        show(rt, b"job ", i, &s[job..end])?;
-        at = end;
+        show(rt, "job", i, job)?;
+        rest = after;
         i += 1;
     }
     Ok(true)
@@ -50,8 +35,9 @@ pub fn all(rt: &impl Print, s: &[u8]) -> io::Result<bool> {
 pub fn first(rt: &impl Print, s: &mut [u8]) -> io::Result<()>
     requires { length s.old ≤ 131072 }
 {
-    let End::At(end) = end_of(s, 0) else {
+    let Some((job, _)) = record(s) else {
         return Ok(());
     };
+    let end = 4 + job.len();
     changed(rt, &mut s[4..end])
 }

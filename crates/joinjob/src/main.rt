@@ -1,14 +1,12 @@
 // The job program: reads a job from standard input and writes its text to standard output.
 #![tactic(auto)]
 
-mod input;
-
-use crate::input::{Input, read_job};
+use intake::read_full;
 
 fn main(rt: HostRuntime) {
     // One byte above the limit, so that a job too long is told as such.
     let mut bytes = [0u8; 16385];
-    let Input::Bytes(n) = read_job(&mut rt.stdin(), &mut bytes) else {
+    let Ok(n) = read_full(&mut rt.stdin(), &mut bytes) else {
         let _ = rt.eprintln("joinjob: standard input cannot be read");
         return;
     };

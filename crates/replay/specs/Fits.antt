@@ -1,16 +1,17 @@
 -- The lengths at which buffers are lent, within the arrays that hold them. Assumes nothing.
 use Rattle.std.specs.Prelude.{◌≡◌, List, ℕ, ◌≤◌, length, Float}
+use Rattle.replay.specs.declared.lengths.TreeLengths.{TreeLengths}
 use Rattle.replay.specs.declared.lengths.Lengths.{Lengths}
 
+pub record TreeFits (n : TreeLengths) : Type 0 where
+  pub starts : n.starts ≤ 4098
+  pub stems : n.stems ≤ 2048
+  pub items : n.items ≤ 65537
+  pub coords : n.coords ≤ 2048
+
 pub record Fits (n : Lengths) : Type 0 where
-  pub lstarts : n.lstarts ≤ 4098
-  pub lstems : n.lstems ≤ 2048
-  pub litems : n.litems ≤ 65537
-  pub lcoords : n.lcoords ≤ 2048
-  pub rstarts : n.rstarts ≤ 4098
-  pub rstems : n.rstems ≤ 2048
-  pub ritems : n.ritems ≤ 65537
-  pub rcoords : n.rcoords ≤ 2048
+  pub left : TreeFits n.left
+  pub right : TreeFits n.right
   pub lout : n.lout ≤ 1025
   pub rout : n.rout ≤ 1025
   pub dout : n.dout ≤ 1025

@@ -11,12 +11,3 @@ pub record Recorded (s : List ℕ) (a : Answer) : Type 0 where
   pub measured : a.measured ≡ number64 s 24
   pub ruled : a.ruled ≡ number64 s 32
   pub whole : a.whole ≡ number64 s 40
-
-pub record Alike (a b : Answer) : Type 0 where
-  pub number : a.number ≡ b.number
-  pub side : a.side ≡ b.side
-  pub found : a.found ≡ b.found
-  pub visits : a.visits ≡ b.visits
-  pub measured : a.measured ≡ b.measured
-  pub ruled : a.ruled ≡ b.ruled
-  pub whole : a.whole ≡ b.whole

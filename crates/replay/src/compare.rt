@@ -1,7 +1,7 @@
 // What a call answered and left in its rooms, against what is recorded.
 ghost use Rattle.std.specs.Prelude.{◌≡◌, true, ◌+◌, ◌*◌, ◌/◌, ◌≤◌, length};
 ghost use Rattle.replay.specs.Same.{Bits, PairAt, Stored, Empty, Untouched};
-ghost use Rattle.replay.specs.Recorded.{Recorded, Alike};
+ghost use Rattle.replay.specs.Recorded.{Recorded};
 
 use join::Answer;
 use reading::{u32_at, u64_at};
@@ -29,49 +29,18 @@ fn recorded(s: &[u8]) -> Answer
     }
 }
 
-// Whether two answers agree in every field.
-fn alike(a: Answer, b: Answer) -> bool
-    ensures { result ≡ true → Alike a b }
-{
-    if a.number != b.number {
-        return false;
-    }
-    if a.side != b.side {
-        return false;
-    }
-    if a.found != b.found {
-        return false;
-    }
-    if a.visits != b.visits {
-        return false;
-    }
-    if a.measured != b.measured {
-        return false;
-    }
-    if a.ruled != b.ruled {
-        return false;
-    }
-    a.whole == b.whole
-}
-
 // Whether an answer is the one that a record holds.
 pub fn answer(a: Answer, s: &[u8]) -> bool
     ensures { result ≡ true → Recorded s.now a }
 {
-    if s.len() < 48 {
-        return false;
-    }
-    alike(a, recorded(s))
+    48 <= s.len() && a == recorded(s)
 }
 
 // A NaN is no recorded distance.
 fn same_bits(x: f64, bits: u64) -> bool
     ensures { result ≡ true → Bits x bits }
 {
-    if x == x {
-        return f64::to_bits(x) == bits;
-    }
-    false
+    x == x && f64::to_bits(x) == bits
 }
 
 // Whether a stored pair is the one recorded at a place.
@@ -79,13 +48,9 @@ fn same_pair(s: &[u8], at: usize, left: u32, right: u32, distance: f64) -> bool
     requires { at + 16 ≤ length s.now }
     ensures { result ≡ true → PairAt s.now at left right distance }
 {
-    if left != u32_at(s, at) {
-        return false;
-    }
-    if right != u32_at(s, at + 4) {
-        return false;
-    }
-    same_bits(distance, u64_at(s, at + 8))
+    left == u32_at(s, at)
+        && right == u32_at(s, at + 4)
+        && same_bits(distance, u64_at(s, at + 8))
 }
 
 // Whether the first n places hold the recorded pairs.
@@ -93,12 +58,10 @@ fn stored(s: &[u8], n: usize, l: &[u32; 1025], r: &[u32; 1025], d: &[f64; 1025])
     requires { (16 * n ≤ length s.now) × (n ≤ 1025) }
     ensures { result ≡ true → Stored s.now n l.now r.now d.now }
 {
-    let mut i = 0;
-    while i < n {
+    for i in 0..n {
         if !same_pair(s, 16 * i, l[i], r[i], d[i]) {
             return false;
         }
-        i += 1;
     }
     true
 }
@@ -107,25 +70,17 @@ fn stored(s: &[u8], n: usize, l: &[u32; 1025], r: &[u32; 1025], d: &[f64; 1025])
 fn empty(left: u32, right: u32, distance: f64) -> bool
     ensures { result ≡ true → Empty left right distance }
 {
-    if left != EMPTY {
-        return false;
-    }
-    if right != EMPTY {
-        return false;
-    }
-    same_bits(distance, FAR_BITS)
+    left == EMPTY && right == EMPTY && same_bits(distance, FAR_BITS)
 }
 
 // Whether the places from n on hold what they were filled with.
 fn untouched(n: usize, l: &[u32; 1025], r: &[u32; 1025], d: &[f64; 1025]) -> bool
     ensures { result ≡ true → Untouched n l.now r.now d.now }
 {
-    let mut i = n;
-    while i < 1025 {
+    for i in n..1025 {
         if !empty(l[i], r[i], d[i]) {
             return false;
         }
-        i += 1;
     }
     true
 }
@@ -136,11 +91,5 @@ pub fn rooms(s: &[u8], l: &[u32; 1025], r: &[u32; 1025], d: &[f64; 1025]) -> boo
     ensures untouched { result ≡ true → Untouched (length s.now / 16) l.now r.now d.now }
 {
     let n = s.len() / 16;
-    if 1025 < n {
-        return false;
-    }
-    if !stored(s, n, l, r, d) {
-        return false;
-    }
-    untouched(n, l, r, d)
+    n <= 1025 && stored(s, n, l, r, d) && untouched(n, l, r, d)
 }

@@ -15,7 +15,7 @@
 mod calls;
 mod compare;
 mod frame;
-mod input;
+mod kind;
 mod lengths;
 mod print;
 mod record;
@@ -24,13 +24,14 @@ mod text;
 
 ghost use Rattle.std.specs.Io.{ReadsAtMost};
 
+use intake::read_full;
 use std::io;
 
 // All of the input. The array is lent as such: a proof over so many zeros themselves would take its time.
 fn fill(from: &mut io::Stdin, input: &mut [u8; 1048576]) -> io::Result<usize>
     ensures { ReadsAtMost result input.new }
 {
-    crate::input::read_full(from, input)
+    read_full(from, input)
 }
 
 fn main(rt: HostRuntime) -> io::Result<()> {

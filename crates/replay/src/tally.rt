@@ -1,40 +1,71 @@
-// How many were compared of each kind, and how many differ. Kinds 0 to 4 are the made of a mode; kind 5 is what no mode can be read of; kind 6 is the text of a job.
-ghost use Rattle.std.specs.Prelude.{◌<◌};
+// How many were compared of each kind, and how many differ.
+ghost use Rattle.std.specs.Prelude.{◌≡◌, ◌+◌, ◌-◌, ◌^◌, min, IsTrue, IsFalse};
 
-pub const TEXT: usize = 6;
+use crate::kind::Kind;
 
-#[derive(Clone, Copy)]
+#[derive(Clone, Copy, Default)]
+pub struct Count {
+    pub made: u64,
+    pub different: u64,
+}
+
+impl Count {
+    // One more, alike or different, up to the largest number there is.
+    pub fn count(&mut self, same: bool)
+        ensures made { self.new.made ≡ min (self.old.made + 1) (2 ^ 64 - 1) }
+        ensures same { IsTrue same → self.new.different ≡ self.old.different }
+        ensures different { IsFalse same → self.new.different ≡ min (self.old.different + 1) (2 ^ 64 - 1) }
+    {
+        self.made = self.made.saturating_add(1);
+        if !same {
+            self.different = self.different.saturating_add(1);
+        }
+    }
+
+    // Both together, up to the largest number there is.
+    pub fn and(self, other: Count) -> Count
+        ensures made { result.made ≡ min (self.made + other.made) (2 ^ 64 - 1) }
+        ensures different { result.different ≡ min (self.different + other.different) (2 ^ 64 - 1) }
+    {
+        Count {
+            made: self.made.saturating_add(other.made),
+            different: self.different.saturating_add(other.different),
+        }
+    }
+}
+
+// The joins of each mode, those that no mode can be read of, and the texts of jobs.
+#[derive(Clone, Copy, Default)]
 pub struct Tally {
-    pub made: [u32; 7],
-    pub different: [u32; 7],
-}
-
-// Nothing counted yet.
-pub fn none() -> Tally {
-    Tally {
-        made: [0; 7],
-        different: [0; 7],
-    }
-}
-
-// One more, up to the largest number there is.
-fn more(n: u32) -> u32 {
-    if n < 4294967295 {
-        return n + 1;
-    }
-    n
+    pub pairs_up_to: Count,
+    pub pairs_under: Count,
+    pub counts_up_to: Count,
+    pub counts_under: Count,
+    pub nearest: Count,
+    pub unreadable: Count,
+    pub texts: Count,
 }
 
 impl Tally {
-    // One more of a kind, alike or different.
-    pub fn counting(self, kind: usize, same: bool) -> Self
-        requires { kind < 7 }
-    {
-        let mut t = self;
-        t.made[kind] = more(t.made[kind]);
-        if !same {
-            t.different[kind] = more(t.different[kind]);
+    // One more join: of a mode, or of none that can be read.
+    pub fn join(&mut self, kind: Option<Kind>, same: bool) {
+        match kind {
+            Some(Kind::PairsUpTo) => self.pairs_up_to.count(same),
+            Some(Kind::PairsUnder) => self.pairs_under.count(same),
+            Some(Kind::CountsUpTo) => self.counts_up_to.count(same),
+            Some(Kind::CountsUnder) => self.counts_under.count(same),
+            Some(Kind::Nearest) => self.nearest.count(same),
+            None => self.unreadable.count(same),
         }
-        t
+    }
+
+    // All joins.
+    pub fn joins(self) -> Count {
+        self.pairs_up_to
+            .and(self.pairs_under)
+            .and(self.counts_up_to)
+            .and(self.counts_under)
+            .and(self.nearest)
+            .and(self.unreadable)
     }
 }

@@ -1,9 +1,9 @@
--- Each record begins where the one before ends, and takes at least its length.
-use Rattle.std.proofs.Common.{◌-◌, ◌≤◌, length}
+-- What is left of the input only shrinks, and each record takes at least its length. Assumes nothing.
+use Rattle.std.proofs.Common.{◌+◌, ◌≤◌, length}
 use Rattle.jobs.proofs.records.all.Given as goal
 
-abbrev pub invariant-loop-at : goal.invariant-loop-at
-invariant-loop-at g l = record { in_bounds : l.at ≤ length l.s; few : l.i ≤ l.at }
+abbrev pub invariant-loop-rest : goal.invariant-loop-rest
+invariant-loop-rest g l = l.i + length l.rest ≤ length l.s
 
-abbrev pub decreases-loop-at : goal.decreases-loop-at
-decreases-loop-at g l = length l.s - l.at
+abbrev pub decreases-loop-rest : goal.decreases-loop-rest
+decreases-loop-rest g l = length l.rest

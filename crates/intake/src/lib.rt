@@ -1,6 +1,10 @@
-// All of the input, or as much of it as there is room for.
-ghost use Rattle.std.specs.Prelude.{◌≡◌, length};
+// All of an input, or as much of it as there is room for.
+#![tactic(auto)]
+
+ghost use Rattle.std.specs.Prelude.{◌≡◌, ◌<◌, IfOk, OnErr, take, length};
 ghost use Rattle.std.specs.Io.{ReadsAtMost};
+ghost use Rattle.std.specs.Io.KnownBytes.{Consumes, IsAtEnd};
+ghost use Rattle.intake.specs.Cut.{LosesFront};
 
 use std::io;
 
@@ -8,6 +12,9 @@ use std::io;
 pub fn read_full<R: io::Read>(from: &mut R, out: &mut [u8]) -> io::Result<usize>
     ensures read { ReadsAtMost result out.new }
     ensures len { length out.new ≡ length out.old }
+    ensures bytes { IfOk result (λ n. Consumes (R.remaining from.old) (R.remaining from.new) (take n out.new)) }
+    ensures end { IfOk result (λ n. n < length out.new → IsAtEnd (R.remaining from.new)) }
+    ensures err { OnErr result (LosesFront (R.remaining from.old) (R.remaining from.new) out.new) }
 {
     let mut done = 0;
     while done < out.len() {
