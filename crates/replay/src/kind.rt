@@ -21,7 +21,7 @@ fn marked(job: &[u8]) -> bool
 }
 
 // The mode of a job whose first 16 bytes are right. Nearest has no radius: its bits are zero.
-pub fn kind(job: &[u8]) -> Option<Kind>
+pub fn kind_of(job: &[u8]) -> Option<Kind>
     ensures { IfSome result (λ _. (16 ≤ length job.now) × (length job.now ≤ 16384)) }
 {
     if !marked(job) {

@@ -5,7 +5,7 @@ ghost use Rattle.replay.specs.Fits.{Fits, Full};
 
 use crate::calls::called;
 use crate::frame::{Frame, framed};
-use crate::kind::{Kind, kind};
+use crate::kind::{Kind, kind_of};
 use crate::lengths::{Lengths, changed, fits, own};
 use crate::tally::Tally;
 use crate::text::text_same;
@@ -85,7 +85,7 @@ fn job_same(f: Frame<'_>, kind: Kind) -> bool
 
 // The join that a record asks for. One that no mode can be read of counts as different.
 fn join_counted(f: Frame<'_>, t: &mut Tally) {
-    match kind(f.job) {
+    match kind_of(f.job) {
         Some(k) => t.join(Some(k), job_same(f, k)),
         None => t.join(None, false),
     }
