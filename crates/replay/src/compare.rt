@@ -48,9 +48,7 @@ fn same_pair(s: &[u8], at: usize, left: u32, right: u32, distance: f64) -> bool
     requires { at + 16 ≤ length s.now }
     ensures { result ≡ true → PairAt s.now at left right distance }
 {
-    left == u32_at(s, at)
-        && right == u32_at(s, at + 4)
-        && same_bits(distance, u64_at(s, at + 8))
+    left == u32_at(s, at) && right == u32_at(s, at + 4) && same_bits(distance, u64_at(s, at + 8))
 }
 
 // Whether the first n places hold the recorded pairs.

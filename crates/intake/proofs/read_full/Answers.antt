@@ -20,7 +20,7 @@ loop-done-preserved g c =
     let out = c.loop-done.out in
     let front = front_more at (length out - at) c.in_ok-more.more out c.read.new.buf c.loop-done.invariant.in_bounds c.in_ok-more.ensures.bound.0 in
     record {
-        in_bounds = search rules;
-        few = search rules;
-        bytes = subst (Consumes _ _) (sym front) (Consumes-trans _ _ _ _ _ c.loop-done.invariant.bytes c.in_ok-more.ensures.bytes.0);
+      in_bounds = search rules;
+      few = search rules;
+      bytes = subst (Consumes _ _) (sym front) (Consumes-trans _ _ _ _ _ c.loop-done.invariant.bytes c.in_ok-more.ensures.bytes.0);
     }

@@ -7,7 +7,7 @@ abbrev pub invariant-loop-done : goal.invariant-loop-done
 invariant-loop-done g l = record {
   in_bounds : l.done ≤ length l.out;
   few : length l.out < 2 ^ 64;
-  bytes : Consumes (g.R.Read.remaining l.initial.from) (g.R.Read.remaining l.from) (take l.done l.out)
+  bytes : Consumes (g.R.Read.remaining l.initial.from) (g.R.Read.remaining l.from) (take l.done l.out);
 }
 
 abbrev pub decreases-loop-done : goal.decreases-loop-done

@@ -1,5 +1,4 @@
 -- The pairs passed are the recorded ones. Assumes nothing.
-use Rattle.std.proofs.Common.{◌*◌, ◌≤◌, length}
 use Rattle.replay.specs.Same.{Stored}
 use Rattle.replay.proofs.compare.stored.Given as goal
 

@@ -1,5 +1,5 @@
 -- Each cut leaves two parts that make up what was cut. Assumes nothing.
-use Rattle.std.proofs.Common.{◌≡◌, ℕ, ◌<◌, List, ◌++◌, arith, length, take, take-append-drop}
+use Rattle.std.proofs.Common.{◌≡◌, ℕ, List, ◌++◌, arith, take-append-drop}
 use Rattle.std.specs.List.{IsSplitAt}
 use Rattle.replay.proofs.frame.framed.Goals as goal
 
@@ -14,8 +14,8 @@ returns c =
     let pairs = c.in_ok-pairs.ensures.cases in
     let text = c.in_ok-text.ensures.cases in
     record {
-        parts = cc (head.1, whole _ _ _ _ head, whole _ _ _ _ job, whole _ _ _ _ answer, whole _ _ _ _ pairs, whole _ _ _ _ text);
-        answer = answer.3;
-        head = head.0;
-        taken = omega (arith, head.4, job.4, answer.4, pairs.4, text.4);
+      parts = cc (head.1, whole _ _ _ _ head, whole _ _ _ _ job, whole _ _ _ _ answer, whole _ _ _ _ pairs, whole _ _ _ _ text);
+      answer = answer.3;
+      head = head.0;
+      taken = omega (arith, head.4, job.4, answer.4, pairs.4, text.4);
     }
