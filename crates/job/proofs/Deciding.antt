@@ -2,7 +2,7 @@
 use mathlib.Core.Path.{◌≡◌, refl, sym, ap, subst, ◌∙◌}
 use mathlib.Core.List.{List}
 use mathlib.Core.Bool.{Bool, true, false}
-use Prim.Native.Nat.{ℕ, zero, suc, ◌≤◌}
+use Prim.Native.Nat.{ℕ, zero, suc, ◌≤◌, ◌<◌}
 use native.Mathlib.Omega.{arith}
 use borrow.Author.Tests.{eq-eqb}
 use lib.ListN.{length}
@@ -11,6 +11,8 @@ use Rattle.written.specs.Answers.{stored}
 use Rattle.written.proofs.Laws.Tests.{fails, not_both, both, three, at_most, equal}
 use Rattle.reading.specs.Trees.{tree_end, tree_fits}
 use Rattle.reading.specs.Lays.{Lays}
+use Rattle.reading.specs.BadJob.{number_of, some_number}
+use Rattle.reading.specs.declared.bad_job.BadJob.{BadJob}
 use Rattle.reading.specs.Header.{axes, mode, radius, trees, right_at, size_ok, length_ok, unless, header_refusal, then_length, job_refusal}
 use Rattle.reading.specs.declared.layout.Layout.{Layout}
 use Rattle.printing.specs.Puts.{Puts}
@@ -34,25 +36,36 @@ module _ (s : List ℕ) where
       let b = (both (leb 16 (length s)) (leb (length s) 16384)).0 (size_kept e) in
       ((at_most 16 (length s)).0 b.0, (at_most (length s) 16384).0 b.1)
 
-  -- ---- the text
-  by_header : (n : ℕ) → (n ≡ 0 → ⊥) → refused_line n 0 ≡ printed_by (then_length n s) s
-  by_header zero k = absurd (k refl)
+  -- ---- the number
+  by_header : (n : ℕ) → 0 < n → n ≡ then_length n s
+  by_header zero k = absurd (omega arith)
   by_header (suc n) k = refl
 
-  pub header_printed : (header_refusal s ≡ 0 → ⊥) → refused_line (header_refusal s) 0 ≡ printed s
+  pub header_refused : (e : BadJob) → number_of e ≡ header_refusal s → number_of e ≡ job_refusal s
   unfolding job_refusal
-  header_printed k = by_header (header_refusal s) k
+  header_refused e told = by_header (number_of e) (some_number e) ∙ ap (λ (n : ℕ). then_length n s) told
 
-  by_length : (n : ℕ) → n ≡ 0 → printed_by (unless (length_ok s) 25 0) s ≡ printed_by (then_length n s) s
-  by_length n e = rw e refl
+  by_length : (n : ℕ) → n ≡ 0 → (b : Bool) → length_ok s ≡ b → unless b 25 0 ≡ then_length n s
+  by_length n e b f = rw (e, f) refl
 
-  pub length_printed : header_refusal s ≡ 0 → length_ok s ≡ false → refused_line 25 0 ≡ printed s
+  pub length_refused : header_refusal s ≡ 0 → length_ok s ≡ false → 25 ≡ job_refusal s
   unfolding job_refusal
-  length_printed e f = ap (λ (b : Bool). printed_by (unless b 25 0) s) (sym f) ∙ by_length (header_refusal s) e
+  length_refused e f = by_length (header_refusal s) e false f
 
-  pub joined_printed : header_refusal s ≡ 0 → length_ok s ≡ true → join_text (trees s) (mode s) (radius s) ≡ printed s
+  pub accepted : header_refusal s ≡ 0 → length_ok s ≡ true → job_refusal s ≡ 0
   unfolding job_refusal
-  joined_printed e f = ap (λ (b : Bool). printed_by (unless b 25 0) s) (sym f) ∙ by_length (header_refusal s) e
+  accepted e f = sym (by_length (header_refusal s) e true f)
+
+  -- ---- the text
+  by_number : (n m : ℕ) → 0 < n → n ≡ m → refused_line n 0 ≡ printed_by m s
+  by_number n zero k e = absurd (omega arith)
+  by_number n (suc m) k e = ap (λ (x : ℕ). refused_line x 0) e
+
+  pub refused_printed : (e : BadJob) → number_of e ≡ job_refusal s → refused_line (number_of e) 0 ≡ printed s
+  refused_printed e = by_number (number_of e) (job_refusal s) (some_number e)
+
+  pub joined_printed : job_refusal s ≡ 0 → join_text (trees s) (mode s) (radius s) ≡ printed s
+  joined_printed e = ap (λ (n : ℕ). printed_by n s) (sym e)
 
   -- ---- the lengths
   abbrev parts : length_ok s ≡ true → (tree_fits s 16 (axes s) ≡ true) × (tree_fits s (right_at s) (axes s) ≡ true) × (eqb (tree_end s (right_at s) (axes s)) (length s) ≡ true)

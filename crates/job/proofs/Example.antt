@@ -6,7 +6,7 @@ use Rattle.written.specs.Check.{every, down, refusal}
 use Rattle.written.specs.Visits.{runs}
 use Rattle.written.specs.Totals.{walk_totals}
 use Rattle.written.specs.Answers.{pairs_in}
-use Rattle.reading.specs.Little.{number16, number32, number64, numbers, floats}
+use Rattle.reading.specs.Little.{number16, number32, number64, in_a_row}
 use Rattle.reading.specs.Header.{job_refusal}
 use Rattle.printing.specs.Numerals.{decimal, hexadecimal}
 use Rattle.printing.specs.Text.{first_line, line, lines, totals_line}
@@ -52,5 +52,5 @@ abbrev last : List ℕ
 last = 118 ∷ 105 ∷ 115 ∷ 105 ∷ 116 ∷ 115 ∷ 32 ∷ 51 ∷ 32 ∷ 109 ∷ 101 ∷ 97 ∷ 115 ∷ 117 ∷ 114 ∷ 101 ∷ 100 ∷ 32 ∷ 56 ∷ 32 ∷ 114 ∷ 117 ∷ 108 ∷ 101 ∷ 100 ∷ 111 ∷ 117 ∷ 116 ∷ 32 ∷ 48 ∷ 32 ∷ 119 ∷ 104 ∷ 111 ∷ 108 ∷ 101 ∷ 32 ∷ 48 ∷ 10 ∷ []
 
 pub a1_prints : printed a1 ≡ first ++ second ++ third ++ fourth ++ last
-unfolding job_refusal number16 number32 number64 numbers floats levels of_bits every down refusal runs pairs_in walk_totals pairs_text first_line lines line totals_line decimal hexadecimal to_bits
+unfolding job_refusal number16 number32 number64 in_a_row levels of_bits every down refusal runs pairs_in walk_totals pairs_text first_line lines line totals_line decimal hexadecimal to_bits
 a1_prints = refl

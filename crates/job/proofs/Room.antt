@@ -8,10 +8,10 @@ use Rattle.reading.specs.Laws.{within}
 use Rattle.reading.specs.declared.layout.Layout.{Layout}
 
 pub record Small (l : Layout) : Type 0 where
-  pub starts_few : l.nstarts ≤ 4096
-  pub stems_few : l.nstems ≤ 2048
-  pub items_few : l.nitems ≤ 4096
-  pub coords_few : l.ncoords ≤ 2048
+  pub starts_few : l.starts.len ≤ 4096
+  pub stems_few : l.stems.len ≤ 2048
+  pub items_few : l.items.len ≤ 4096
+  pub coords_few : l.coords.len ≤ 2048
 
 pub small : {K : ℕ} {s : List ℕ} {at : ℕ} {l : Layout} → length s ≤ 16384 → Lays K s at l → Small l
 small {K} {s} {at} {l} h lays =

@@ -14,7 +14,7 @@ use Rattle.written.specs.Calls.{CountsAnswer, counts_tree_refused, counts_told}
 use Rattle.written.proofs.Answered.{pairs_mean, counts_mean, nearest_means}
 use Rattle.written.proofs.Checked.{refusal_is_first, first_is_one}
 use Rattle.written.proofs.Laws.Tests.{both, three, at_most, equal}
-use Rattle.reading.specs.Little.{numbers, floats}
+use Rattle.reading.specs.Little.{in_a_row, numbers, floats}
 use Rattle.reading.specs.Trees.{leaf_count, point_count, starts_at, stems_at, items_at, coords_at, tree_end, tree_fits, tree_at}
 use Rattle.reading.specs.Laws.{ends}
 use Rattle.reading.specs.Header.{mark_ok, version_ok, mode_ok, axes, trees, right_at, size_ok, length_ok, unless, header_refusal, then_length, job_refusal}
@@ -42,15 +42,16 @@ module _ (K : ℕ) (t : Tree) (a : axes_ok K t ≡ true) (b : sizes_ok K t ≡ t
 
 -- ---- a tree that lies in a job
 
+length_row : {A : Type 0} (w : ℕ) (value : ℕ → A) (at n : ℕ) → length (in_a_row w value at n) ≡ n
+unfolding in_a_row
+length_row w value at zero = refl
+length_row w value at (suc n) = ap suc (length_row w value (at + w) n)
+
 length_numbers : (s : List ℕ) (at n : ℕ) → length (numbers s at n) ≡ n
-unfolding numbers
-length_numbers s at zero = refl
-length_numbers s at (suc n) = ap suc (length_numbers s (at + 4) n)
+length_numbers s = length_row 4 _
 
 length_floats : (s : List ℕ) (at n : ℕ) → length (floats s at n) ≡ n
-unfolding floats
-length_floats s at zero = refl
-length_floats s at (suc n) = ap suc (length_floats s (at + 8) n)
+length_floats s = length_row 8 _
 
 module _ (s : List ℕ) (at K : ℕ) (small : length s ≤ 16384) (fits : tree_fits s at K ≡ true) where
   abbrev t : Tree

@@ -1,9 +1,19 @@
 -- What the code prints: of an answer the lines of its first places, of a job its text. Assumes nothing.
 use Rattle.std.specs.Prelude.{◌≡◌, List, ℕ, zero, suc, ◌≤◌, length, Float}
 use Rattle.written.specs.Answers.{stored}
+use Rattle.reading.specs.Header.{axes, right_at}
+use Rattle.reading.specs.Lays.{Lays}
+use Rattle.reading.specs.declared.layout.Layout.{Layout}
 use Rattle.printing.specs.Puts.{Puts}
 use Rattle.job.specs.Printed.{printed}
 use Rattle.join.specs.declared.answer.Answer.{Answer as Held}
+
+-- a job within the limits, and where its trees lie in it
+pub record Taken (s : List ℕ) (l r : Layout) : Type 0 where
+  pub header_held : 16 ≤ length s
+  pub limited : length s ≤ 16384
+  pub left_lies : Lays (axes s) s 16 l
+  pub right_lies : Lays (axes s) s (right_at s) r
 
 -- how many lines: those found, none of a refusal
 abbrev pub lines_by : (number : ℕ) → ℕ → ℕ

@@ -1,13 +1,13 @@
 // The job program as a function: the bytes of a job in, the bytes of its text out. Added by the port.
 #![tactic(auto)]
 
-ghost use Rattle.std.specs.Prelude.{◌≤◌, length};
-ghost use Rattle.reading.specs.Lays.{Lays};
-ghost use Rattle.reading.specs.Header.{axes, mode, radius, trees, right_at};
+ghost use Rattle.std.specs.Prelude.{◌≡◌, MatchResult};
+ghost use Rattle.reading.specs.BadJob.{number_of};
+ghost use Rattle.reading.specs.Header.{mode, radius, trees, job_refusal};
 ghost use Rattle.job.specs.Printed.{join_text};
-ghost use Rattle.job.specs.Shown.{Prints, Ran};
+ghost use Rattle.job.specs.Shown.{Taken, Prints, Ran};
 
-use reading::{Laid, Layout, byte_at, decode, f64_at, lay};
+use reading::{BadJob, Layout, byte_at, check_header, decode, f64_at, lay};
 
 mod calling;
 mod modes;
@@ -17,7 +17,7 @@ pub use crate::calling::{counts, pairs};
 
 // Both trees taken out of the job, and joined.
 fn joined(s: &[u8], l: Layout, r: Layout, out: &mut [u8]) -> usize
-    requires { (16 ≤ length s.now) × (length s.now ≤ 16384) × (Lays (axes s.now) s.now 16 l) × (Lays (axes s.now) s.now (right_at s.now) r) }
+    requires { Taken s.now l r }
     ensures { Prints out.old (join_text (trees s.now) (mode s.now) (radius s.now)) out.new result }
 {
     let mut lstarts = [0u32; 4096];
@@ -33,47 +33,42 @@ fn joined(s: &[u8], l: Layout, r: Layout, out: &mut [u8]) -> usize
     let k = byte_at(s, 5);
     let asked = byte_at(s, 6);
     let within = f64_at(s, 8);
-    let a = l.nstarts;
-    let b = l.nstems;
-    let c = l.nitems;
-    let d = l.ncoords;
-    let e = r.nstarts;
-    let f = r.nstems;
-    let g = r.nitems;
-    let h = r.ncoords;
     crate::modes::join_text(
         asked,
         k,
         within,
-        &lstarts[..a],
-        &lstems[..b],
-        &litems[..c],
-        &lcoords[..d],
-        &rstarts[..e],
-        &rstems[..f],
-        &ritems[..g],
-        &rcoords[..h],
+        &lstarts[..l.starts.len],
+        &lstems[..l.stems.len],
+        &litems[..l.items.len],
+        &lcoords[..l.coords.len],
+        &rstarts[..r.starts.len],
+        &rstems[..r.stems.len],
+        &ritems[..r.items.len],
+        &rcoords[..r.coords.len],
         &mut *out,
     )
+}
+
+// Where both trees lie, or the first rule that the job breaks.
+fn parsed(s: &[u8]) -> Result<(Layout, Layout), BadJob>
+    ensures { MatchResult result (λ found. (job_refusal s.now ≡ 0) × Taken s.now found.0 found.1) (λ e. number_of e ≡ job_refusal s.now) }
+{
+    check_header(s)?;
+    let k = byte_at(s, 5) as usize;
+    let l = lay(s, 16, k).ok_or(BadJob::Length)?;
+    let r = lay(s, l.end, k).ok_or(BadJob::Length)?;
+    if r.end != s.len() {
+        return Err(BadJob::Length);
+    }
+    Ok((l, r))
 }
 
 // The text of a job: its bytes go to the start of out, as far as there is room, and the answer is how many there are.
 pub fn run(s: &[u8], out: &mut [u8]) -> usize
     ensures { Ran s.now out.old out.new result }
 {
-    let number = reading::header_refusal(s);
-    if number != 0 {
-        return printing::refused(&mut *out, number, 0);
+    match parsed(s) {
+        Ok((l, r)) => joined(s, l, r, out),
+        Err(e) => printing::refused(out, e.number(), 0),
     }
-    let k = byte_at(s, 5) as usize;
-    let Laid::Tree(l) = lay(s, 16, k) else {
-        return printing::refused(&mut *out, 25, 0);
-    };
-    let Laid::Tree(r) = lay(s, l.end, k) else {
-        return printing::refused(&mut *out, 25, 0);
-    };
-    if r.end != s.len() {
-        return printing::refused(&mut *out, 25, 0);
-    }
-    joined(s, l, r, &mut *out)
 }

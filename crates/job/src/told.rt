@@ -11,10 +11,7 @@ use join::Answer;
 pub fn shown(a: Answer) -> usize
     ensures { result ≡ lines_of a }
 {
-    if a.number != 0 {
-        return 0;
-    }
-    a.found as usize
+    if a.number == 0 { a.found as usize } else { 0 }
 }
 
 // The first line, a line for each of the first n places, the totals; or the refusal alone.

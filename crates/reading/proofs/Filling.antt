@@ -1,28 +1,22 @@
--- A list filled from the front, with what is read every w places from a place on: the first i are filled, then the first i + 1. Assumes nothing.
-use mathlib.Core.Path.{◌≡◌, ◌∙◌}
-use mathlib.Core.List.{List, [], ◌∷◌, ◌++◌}
-use Prim.Native.Nat.{ℕ, zero, suc, ◌+◌, ◌*◌, ◌<◌}
-use native.Mathlib.Nat.{mul-suc}
-use native.Mathlib.Numerals.{add-one}
-use native.Mathlib.Omega.{arith}
-use lib.ListN.{length, take, set}
-use lib.Seq.{take-suc-set}
+-- A list filled from the front with what lies in a row: the first i are filled, then the first i + 1. Assumes nothing.
+use Rattle.std.proofs.Common.{◌≡◌, refl, List, [], ◌∷◌, ◌++◌, ℕ, zero, suc, ◌+◌, ◌*◌, ◌<◌, length, take, arith, add-one}
+use Rattle.std.proofs.Math.Nat.{mul-suc}
+use Rattle.std.proofs.Math.ListN.{set}
+use Rattle.std.proofs.Math.Seq.{take-suc-set}
+use Rattle.reading.specs.Little.{in_a_row}
 
--- the run of n that are read from a place on, known by its two clauses
-module _ {A : Type 0} (w : ℕ) (read : ℕ → A) (run : (at n : ℕ) → List A) (none : (at : ℕ) → run at 0 ≡ []) (more : (at n : ℕ) → run at (suc n) ≡ read at ∷ run (at + w) n) where
-  -- it ends with what is read last
-  last : (at n : ℕ) → run at (suc n) ≡ run at n ++ (read (at + w * n) ∷ [])
-  last at zero =
-      let place : at + w * 0 ≡ at = omega arith in
-      more at 0 ∙ rw (none (at + w), none at, place)
+module _ {A : Type 0} (w : ℕ) (value : ℕ → A) where
+  -- a row ends with what lies last
+  last : (at n : ℕ) → in_a_row w value at (suc n) ≡ in_a_row w value at n ++ (value (at + w * n) ∷ [])
+  unfolding in_a_row
+  last at zero = let place : at + w * 0 ≡ at = omega arith in rw place refl
   last at (suc n) =
       let place : at + w + w * n ≡ at + w * suc n = omega (arith, mul-suc w n) in
-      more at (suc n) ∙ rw (last (at + w) n, more at n, place)
+      rw (last (at + w) n, place) refl
 
   pub one_more : (at : ℕ) (l : List A) (i : ℕ) (v : A)
       → i < length l
-      → take i l ≡ run at i
-      → v ≡ read (at + w * i)
-      → take (i + 1) (set l i v) ≡ run at (i + 1)
-  one_more at l i v inside first here =
-      rw (add-one i, take-suc-set l i v inside, first, here, last at i)
+      → take i l ≡ in_a_row w value at i
+      → v ≡ value (at + w * i)
+      → take (i + 1) (set l i v) ≡ in_a_row w value at (i + 1)
+  one_more at l i v inside first here = rw (add-one i, take-suc-set l i v inside, first, here, last at i)

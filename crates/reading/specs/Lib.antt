@@ -4,3 +4,4 @@ pub mod Lays
 pub mod Held
 pub mod Laws
 pub mod Header
+pub mod BadJob

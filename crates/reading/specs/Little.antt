@@ -23,11 +23,13 @@ float_of bits = of_bits binary64 bits
 abbrev pub float64 : List ℕ → ℕ → Float
 float64 s at = float_of (number64 s at)
 
--- n of them, one after the other
-unfoldable pub numbers : List ℕ → (at n : ℕ) → List ℕ
-numbers s at zero = []
-numbers s at (suc n) = number32 s at ∷ numbers s (at + 4) n
+-- n of them, one after the other, each of w bytes
+unfoldable pub in_a_row : {A : Type 0} → (w : ℕ) → (value : ℕ → A) → (at n : ℕ) → List A
+in_a_row w value at zero = []
+in_a_row w value at (suc n) = value at ∷ in_a_row w value (at + w) n
 
-unfoldable pub floats : List ℕ → (at n : ℕ) → List Float
-floats s at zero = []
-floats s at (suc n) = float64 s at ∷ floats s (at + 8) n
+abbrev pub numbers : List ℕ → (at n : ℕ) → List ℕ
+numbers s = in_a_row 4 (number32 s)
+
+abbrev pub floats : List ℕ → (at n : ℕ) → List Float
+floats s = in_a_row 8 (float64 s)

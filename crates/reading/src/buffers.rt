@@ -1,33 +1,19 @@
 // The buffers of a tree, from its bytes.
 ghost use Rattle.std.specs.Prelude.{◌≡◌, ◌+◌, ◌*◌, ◌≤◌, length, take};
-ghost use Rattle.reading.specs.Little.{numbers as numbers_in, floats as floats_in};
+ghost use Rattle.reading.specs.Little.{in_a_row};
 ghost use Rattle.reading.specs.Lays.{Within};
 ghost use Rattle.reading.specs.Held.{Roomy, Holds};
 
-use crate::layout::Layout;
-use crate::little::{f64_at, u32_at};
+use crate::layout::{Layout, Part};
+use crate::little::Little;
 
-// n numbers from a place on.
-fn numbers(s: &[u8], at: usize, n: usize, out: &mut [u32])
-    requires { (at + 4 * n ≤ length s.now) × (n ≤ length out.old) }
-    ensures { take n out.new ≡ numbers_in s.now at n }
+// One part, one value after the other.
+fn fill<T: Little>(s: &[u8], part: Part, out: &mut [T])
+    requires { (part.at + T.WIDTH * part.len ≤ length s.now) × (part.len ≤ length out.old) }
+    ensures { take part.len out.new ≡ in_a_row T.WIDTH (T.value s.now) part.at part.len }
 {
-    let mut i = 0;
-    while i < n {
-        out[i] = u32_at(s, at + 4 * i);
-        i += 1;
-    }
-}
-
-// n floats from a place on.
-fn floats(s: &[u8], at: usize, n: usize, out: &mut [f64])
-    requires { (at + 8 * n ≤ length s.now) × (n ≤ length out.old) }
-    ensures { take n out.new ≡ floats_in s.now at n }
-{
-    let mut i = 0;
-    while i < n {
-        out[i] = f64_at(s, at + 8 * i);
-        i += 1;
+    for i in 0..part.len {
+        out[i] = T::at(s, part.at + T::WIDTH * i);
     }
 }
 
@@ -43,8 +29,8 @@ pub fn decode(
     requires { (Within (length s.now) l) × (Roomy l starts.old stems.old items.old coords.old) }
     ensures { Holds s.now l starts.new stems.new items.new coords.new }
 {
-    numbers(s, l.starts, l.nstarts, &mut *starts);
-    floats(s, l.stems, l.nstems, &mut *stems);
-    numbers(s, l.items, l.nitems, &mut *items);
-    floats(s, l.coords, l.ncoords, &mut *coords);
+    fill(s, l.starts, starts);
+    fill(s, l.stems, stems);
+    fill(s, l.items, items);
+    fill(s, l.coords, coords);
 }

@@ -1,79 +1,69 @@
 // The first 16 bytes: mark, version, K, mode, a zero byte, radius.
-ghost use Rattle.std.specs.Prelude.{◌≡◌, ◌≤◌, length};
-ghost use Rattle.reading.specs.Header.{size_ok, mark_ok, mode_ok, axes_ok, header_refusal};
+ghost use Rattle.std.specs.Prelude.{◌≡◌, ◌≤◌, length, MatchResult};
+ghost use Rattle.reading.specs.Header.{size_ok, mark_ok, version_ok, mode_ok, axes_ok, header_refusal};
+ghost use Rattle.reading.specs.BadJob.{number_of};
 
+use crate::bad_job::BadJob;
 use crate::little::{u16_at, u64_at};
 
-// 21: neither too short for a header nor above the limit.
+// Neither too short for a header nor above the limit.
 fn size_ok(s: &[u8]) -> bool
     ensures { result ≡ size_ok s.now }
 {
-    if s.len() < 16 {
-        return false;
-    }
-    s.len() <= 16384
+    16 <= s.len() && s.len() <= 16384
 }
 
-// 22: KDJ.
+// KDJ.
 fn mark_ok(s: &[u8]) -> bool
     requires { 16 ≤ length s.now }
     ensures { result ≡ mark_ok s.now }
 {
-    if s[0] != b'K' {
-        return false;
-    }
-    if s[1] != b'D' {
-        return false;
-    }
-    s[2] == b'J'
+    s.starts_with(b"KDJ")
 }
 
-// 24: a mode there is, the spare byte zero, and no radius for nearest.
+// The one version that there is.
+fn version_ok(s: &[u8]) -> bool
+    requires { 16 ≤ length s.now }
+    ensures { result ≡ version_ok s.now }
+{
+    u16_at(s, 3) == 1
+}
+
+// A mode there is, the spare byte zero, and no radius for nearest.
 fn mode_ok(s: &[u8]) -> bool
     requires { 16 ≤ length s.now }
     ensures { result ≡ mode_ok s.now }
 {
-    if 4 < s[6] {
-        return false;
-    }
-    if s[7] != 0 {
-        return false;
-    }
-    if s[6] != 4 {
-        return true;
-    }
-    u64_at(s, 8) == 0
+    s[6] <= 4 && s[7] == 0 && (s[6] != 4 || u64_at(s, 8) == 0)
 }
 
-// 1: K is 1 to 4.
+// K is 1 to 4.
 fn axes_ok(s: &[u8]) -> bool
     requires { 16 ≤ length s.now }
     ensures { result ≡ axes_ok s.now }
 {
-    if s[5] < 1 {
-        return false;
-    }
-    s[5] <= 4
+    1 <= s[5] && s[5] <= 4
 }
 
-// The number of the first rule broken, 0 where none is.
-pub fn header_refusal(s: &[u8]) -> u32
-    ensures { result ≡ header_refusal s.now }
+// The first rule broken, where one is.
+#[tactic(auto, unfolding(crate::specs::Header::header_refusal))]
+pub fn check_header(s: &[u8]) -> Result<(), BadJob>
+    ensures { MatchResult result (λ _. header_refusal s.now ≡ 0) (λ e. number_of e ≡ header_refusal s.now) }
 {
     if !size_ok(s) {
-        return 21;
+        return Err(BadJob::Size);
     }
     if !mark_ok(s) {
-        return 22;
+        return Err(BadJob::Mark);
     }
-    if u16_at(s, 3) != 1 {
-        return 23;
+    if !version_ok(s) {
+        return Err(BadJob::Version);
     }
     if !mode_ok(s) {
-        return 24;
+        return Err(BadJob::Mode);
     }
     if !axes_ok(s) {
-        return 1;
+        return Err(BadJob::Axes);
     }
-    0
+    Ok(())
 }

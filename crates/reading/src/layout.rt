@@ -1,28 +1,35 @@
 // Where the parts of a tree lie in a job.
-ghost use Rattle.std.specs.Prelude.{◌≡◌, ◌*◌, ◌≤◌, ◌<◌, length};
-ghost use Rattle.reading.specs.Lays.{LaidOut};
+ghost use Rattle.std.specs.Prelude.{◌≡◌, ◌+◌, ◌*◌, ◌^◌, ◌≤◌, ◌<◌, length, false, MatchOption};
+ghost use Rattle.reading.specs.Trees.{tree_fits};
+ghost use Rattle.reading.specs.Lays.{Lays};
 
 use crate::little::u32_at;
 
-// Where each part begins, where the tree ends, and how many numbers each part has.
-#[derive(Clone, Copy)]
-pub struct Layout {
-    pub starts: usize,
-    pub stems: usize,
-    pub items: usize,
-    pub coords: usize,
-    pub end: usize,
-    pub nstarts: usize,
-    pub nstems: usize,
-    pub nitems: usize,
-    pub ncoords: usize,
+// Where a part begins, and how many numbers it has.
+#[derive(Clone, Copy, Debug, PartialEq, Eq)]
+pub struct Part {
+    pub at: usize,
+    pub len: usize,
 }
 
-// A tree within the job, or none.
-#[derive(Clone, Copy)]
-pub enum Laid {
-    Tree(Layout),
-    Wrong,
+impl Part {
+    // The place after its last number, of `width` bytes each.
+    fn end(self, width: usize) -> usize
+        requires { self.at + width * self.len < 2 ^ 64 }
+        ensures { result ≡ self.at + width * self.len }
+    {
+        self.at + width * self.len
+    }
+}
+
+// The parts of a tree, and where the tree ends.
+#[derive(Clone, Copy, Debug, PartialEq, Eq)]
+pub struct Layout {
+    pub starts: Part,
+    pub stems: Part,
+    pub items: Part,
+    pub coords: Part,
+    pub end: usize,
 }
 
 // K columns of n: below 2^40, so nothing wraps.
@@ -33,39 +40,45 @@ fn coord_count(k: usize, n: usize) -> usize
     k * n
 }
 
-// Leaf count, point count, starts, stems, items, coordinates from a place on; wrong where the job ends before they do.
-pub fn lay(s: &[u8], at: usize, k: usize) -> Laid
+// Leaf count, point count, starts, stems, items, coordinates from a place on; none where the job ends before they do.
+#[tactic(auto, using(crate::proofs::Fitting::few_stems))]
+pub fn lay(s: &[u8], at: usize, k: usize) -> Option<Layout>
     requires { (at ≤ length s.now) × (length s.now ≤ 16384) × (k < 256) }
-    ensures { LaidOut k s.now at result }
+    ensures { MatchOption result (tree_fits s.now at k ≡ false) (λ l. Lays k s.now at l) }
 {
     if s.len() < at + 8 {
-        return Laid::Wrong;
+        return None;
     }
     let m = u32_at(s, at);
     if 4096 < m {
-        return Laid::Wrong;
+        return None;
     }
-    let nitems = u32_at(s, at + 4) as usize;
-    let starts = at + 8;
-    let nstarts = m as usize + 1;
-    let stems = starts + 4 * nstarts;
-    let nstems = tree::stem_count(m);
-    let items = stems + 8 * nstems;
-    let coords = items + 4 * nitems;
-    let ncoords = coord_count(k, nitems);
-    let end = coords + 8 * ncoords;
+    let n = u32_at(s, at + 4) as usize;
+    let starts = Part {
+        at: at + 8,
+        len: m as usize + 1,
+    };
+    let stems = Part {
+        at: starts.end(4),
+        len: tree::stem_count(m),
+    };
+    let items = Part {
+        at: stems.end(8),
+        len: n,
+    };
+    let coords = Part {
+        at: items.end(4),
+        len: coord_count(k, n),
+    };
+    let end = coords.end(8);
     if s.len() < end {
-        return Laid::Wrong;
+        return None;
     }
-    Laid::Tree(Layout {
+    Some(Layout {
         starts,
         stems,
         items,
         coords,
         end,
-        nstarts,
-        nstems,
-        nitems,
-        ncoords,
     })
 }

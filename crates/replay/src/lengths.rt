@@ -25,10 +25,10 @@ pub struct Lengths {
 // As the job says.
 fn tree_own(l: Layout) -> TreeLengths {
     TreeLengths {
-        starts: l.nstarts,
-        stems: l.nstems,
-        items: l.nitems,
-        coords: l.ncoords,
+        starts: l.starts.len,
+        stems: l.stems.len,
+        items: l.items.len,
+        coords: l.coords.len,
     }
 }
 

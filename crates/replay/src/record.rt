@@ -9,7 +9,7 @@ use crate::kind::{Kind, kind_of};
 use crate::lengths::{Lengths, changed, fits, own};
 use crate::tally::Tally;
 use crate::text::text_same;
-use reading::{Laid, Layout, byte_at, decode, f64_at, lay};
+use reading::{Layout, byte_at, decode, f64_at, lay};
 
 // One tree's buffers, in arrays that no job fills.
 fn tree(
@@ -68,10 +68,10 @@ fn job_same(f: Frame<'_>, kind: Kind) -> bool
 {
     let job = f.job;
     let k = byte_at(job, 5) as usize;
-    let Laid::Tree(l) = lay(job, 16, k) else {
+    let Some(l) = lay(job, 16, k) else {
         return false;
     };
-    let Laid::Tree(r) = lay(job, l.end, k) else {
+    let Some(r) = lay(job, l.end, k) else {
         return false;
     };
     if r.end != job.len() {

@@ -1,11 +1,11 @@
--- A pattern whose magnitude is at most the infinity's is no NaN's; any other is read as NaN, which is what 0.0 / 0.0 gives. Assumes nothing.
+-- A pattern whose magnitude is at most the infinity's is no NaN's; any other is read as NaN, the one there is. Assumes nothing.
 use mathlib.Core.Path.{◌≡◌, refl, sym, subst, ◌∙◌}
 use mathlib.Core.Bool.{Bool, true, not, false≢true}
 use Prim.Native.Nat.{◌%◌, ◌≤◌, ◌<◌}
 use native.Mathlib.Omega.{arith}
 use borrow.Author.Tests.{le-ltb, lt-ltb}
 use lib.Dec.{T}
-use lib.Ieee.{Float, nan, inf, fin, is_nan, of_bits, binary64, div}
+use lib.Ieee.{Float, nan, inf, fin, is_nan, of_bits, binary64}
 use lib.Ieee.Bits.{nan_bits_above, nan_bits_is}
 use Rattle.reading.proofs.little.float_of.Goals as goal
 
@@ -15,8 +15,8 @@ is-nan nan e = refl
 is-nan (inf s) e = absurd (false≢true e)
 is-nan (fin s m k) e = absurd (false≢true e)
 
-no_number : div binary64 (of_bits binary64 0) (of_bits binary64 0) ≡ nan
-unfolding div of_bits
+no_number : of_bits binary64 0x7ff8000000000000 ≡ nan
+unfolding of_bits
 no_number = refl
 
 pub float_from_bits-result : goal.float_from_bits-result
