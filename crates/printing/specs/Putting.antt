@@ -1,6 +1,6 @@
 -- Texts put one after the other, and what stands in a buffer whose start they were put at. Assumes nothing.
 use Rattle.std.specs.Prelude.{◌≡◌, refl, List, [], ◌∷◌, ◌++◌, ℕ, suc, ◌+◌, length, set}
-use Rattle.std.proofs.Common.{sym, ap, ◌∙◌, arith, length-append}
+use Rattle.std.proofs.Common.{sym, ap, subst, ◌∙◌, arith, length-append}
 use Rattle.std.proofs.lemmas.List.Edits.{sets}
 use Rattle.std.proofs.Math.Seq.{length-sets}
 use Rattle.written.specs.Answers.{stored}
@@ -26,6 +26,14 @@ puts_then {b} {c} {d} {at} {m} {n} {t} {u} p q =
       stored = q.stored ∙ ap (λ (k : ℕ). sets c k u) p.counted ∙ ap (λ (l : List ℕ). sets l (at + length t) u) p.stored ∙ sym (sets_append b at t u);
       counted = omega (arith, p.counted, q.counted, length-append t u);
     }
+
+-- the same text, written otherwise
+pub puts_as : {b c t u : List ℕ} {at n : ℕ} → t ≡ u → Puts b at t c n → Puts b at u c n
+puts_as {b} {c} {t} {u} {at} {n} e p = subst (λ (x : List ℕ). Puts b at x c n) e p
+
+-- the same buffer, known otherwise
+pub puts_in : {b c d t : List ℕ} {at n : ℕ} → d ≡ c → Puts b at t c n → Puts b at t d n
+puts_in {b} {c} {d} {t} {at} {n} e p = subst (λ (x : List ℕ). Puts b at t x n) (sym e) p
 
 pub puts_length : {b c : List ℕ} {at n : ℕ} {t : List ℕ} → Puts b at t c n → length c ≡ length b
 puts_length {b} {c} {at} {n} {t} p = ap length p.stored ∙ length-sets b at t

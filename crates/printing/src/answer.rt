@@ -1,22 +1,23 @@
 // The lines of an answer.
-ghost use Rattle.std.specs.Prelude.{◌+◌, ◌*◌, ◌≤◌, length};
+ghost use Rattle.std.specs.Prelude.{◌≡◌, ◌+◌, ◌*◌, ◌≤◌, length};
 ghost use Rattle.printing.specs.Text.{line as line_of, lines as lines_of, first_line, refused_line, totals_line};
 ghost use Rattle.printing.specs.Rows.{found, rows, totalled};
 ghost use Rattle.printing.specs.Puts.{Puts};
 
-use crate::bytes::text;
-use crate::numerals::{decimal, hexadecimal};
+use crate::bytes::Page;
 
 // `refused`, number and side.
 pub fn refused(out: &mut [u8], number: u32, side: u32) -> usize
     ensures puts { Puts out.old 0 (refused_line number side) out.new result }
     ensures upper_bound { result ≤ 50 }
 {
-    let a = text(&mut *out, 0, b"refused ");
-    let b = decimal(&mut *out, a, number as u64);
-    let c = text(&mut *out, b, b" ");
-    let d = decimal(&mut *out, c, side as u64);
-    text(&mut *out, d, b"\n")
+    let mut page = Page { out, at: 0 };
+    page.text(b"refused ");
+    page.decimal(number as u64);
+    page.text(b" ");
+    page.decimal(side as u64);
+    page.text(b"\n");
+    page.at
 }
 
 // The first line: what was asked for, and how many there are.
@@ -25,24 +26,27 @@ pub fn head(out: &mut [u8], kind: &[u8], n: u64) -> usize
     ensures puts { Puts out.old 0 (first_line kind.now n) out.new result }
     ensures upper_bound { result ≤ 30 }
 {
-    let a = text(&mut *out, 0, kind);
-    let b = text(&mut *out, a, b" ");
-    let c = decimal(&mut *out, b, n);
-    text(&mut *out, c, b"\n")
+    let mut page = Page { out, at: 0 };
+    page.text(kind);
+    page.text(b" ");
+    page.decimal(n);
+    page.text(b"\n");
+    page.at
 }
 
 // Left item, right item, distance.
-fn line(out: &mut [u8], at: usize, left: u32, right: u32, distance: f64) -> usize
-    requires { at ≤ 65536 }
-    ensures puts { Puts out.old at (line_of (found left right distance)) out.new result }
-    ensures upper_bound { result ≤ at + 59 }
+fn line(page: &mut Page<'_>, left: u32, right: u32, distance: f64)
+    requires { page.old.at ≤ 65536 }
+    ensures same_buffer { page.new.out.ghost_name ≡ page.old.out.ghost_name }
+    ensures puts { Puts page.old.out.now page.old.at (line_of (found left right distance)) page.new.out.now page.new.at }
+    ensures upper_bound { page.new.at ≤ page.old.at + 59 }
 {
-    let a = decimal(&mut *out, at, left as u64);
-    let b = text(&mut *out, a, b" ");
-    let c = decimal(&mut *out, b, right as u64);
-    let d = text(&mut *out, c, b" ");
-    let e = hexadecimal(&mut *out, d, distance);
-    text(&mut *out, e, b"\n")
+    page.decimal(left as u64);
+    page.text(b" ");
+    page.decimal(right as u64);
+    page.text(b" ");
+    page.hexadecimal(distance);
+    page.text(b"\n");
 }
 
 // A line for each of the first n places.
@@ -58,13 +62,11 @@ pub fn lines(
     ensures puts { Puts out.old at (lines_of (rows n lefts.now rights.now distances.now)) out.new result }
     ensures upper_bound { result ≤ at + 59 * n }
 {
-    let mut w = at;
-    let mut i = 0;
-    while i < n {
-        w = line(&mut *out, w, lefts[i], rights[i], distances[i]);
-        i += 1;
+    let mut page = Page { out, at };
+    for i in 0..n {
+        line(&mut page, lefts[i], rights[i], distances[i]);
     }
-    w
+    page.at
 }
 
 // The last line.
@@ -80,13 +82,15 @@ pub fn totals(
     ensures puts { Puts out.old at (totals_line (totalled visits measured ruled whole)) out.new result }
     ensures upper_bound { result ≤ at + 120 }
 {
-    let a = text(&mut *out, at, b"visits ");
-    let b = decimal(&mut *out, a, visits);
-    let c = text(&mut *out, b, b" measured ");
-    let d = decimal(&mut *out, c, measured);
-    let e = text(&mut *out, d, b" ruledout ");
-    let f = decimal(&mut *out, e, ruled);
-    let g = text(&mut *out, f, b" whole ");
-    let h = decimal(&mut *out, g, whole);
-    text(&mut *out, h, b"\n")
+    let mut page = Page { out, at };
+    page.text(b"visits ");
+    page.decimal(visits);
+    page.text(b" measured ");
+    page.decimal(measured);
+    page.text(b" ruledout ");
+    page.decimal(ruled);
+    page.text(b" whole ");
+    page.decimal(whole);
+    page.text(b"\n");
+    page.at
 }

@@ -11,15 +11,23 @@ fn put(out: &mut [u8], at: usize, b: u8)
     }
 }
 
-// All bytes of s.
-pub fn text(out: &mut [u8], at: usize, s: &[u8]) -> usize
-    requires { at + length s.now ≤ 4294967296 }
-    ensures { Puts out.old at s.now out.new result }
-{
-    let mut i = 0;
-    while i < s.len() {
-        put(&mut *out, at + i, s[i]);
-        i += 1;
+// A lent buffer, and the place after what was written.
+#[derive(Drop)]
+pub struct Page<'a> {
+    pub out: &'a mut [u8],
+    pub at: usize,
+}
+
+impl Page<'_> {
+    // All bytes of s.
+    pub fn text(&mut self, s: &[u8])
+        requires { self.old.at + length s.now ≤ 4294967296 }
+        ensures same_buffer { self.new.out.ghost_name ≡ self.old.out.ghost_name }
+        ensures puts { Puts self.old.out.now self.old.at s.now self.new.out.now self.new.at }
+    {
+        for i in 0..s.len() {
+            put(self.out, self.at + i, s[i]);
+        }
+        self.at += s.len();
     }
-    at + i
 }

@@ -14,7 +14,7 @@ fn count(n: u64, base: u64, width: usize) -> usize
         rest /= base;
         k += 1;
     }
-    if k < width { width } else { k }
+    k.max(width)
 }
 
 // A digit: `0` to `9`, then `a` to `f`.
@@ -23,9 +23,10 @@ fn ascii(d: u64) -> u8
     ensures { result ≡ hex_digit_ascii d }
 {
     if d < 10 {
-        return b'0' + d as u8;
+        b'0' + d as u8
+    } else {
+        b'a' - 10 + d as u8
     }
-    b'a' - 10 + d as u8
 }
 
 // The last k digits of n in a base, the most significant first, at the start of out.
@@ -35,10 +36,8 @@ fn store(n: u64, base: u64, k: usize, out: &mut [u8])
     requires in_bounds { k ≤ length out.old }
     ensures { take k out.new ≡ last_digits base k n }
 {
-    let mut i = k;
     let mut rest = n;
-    while i > 0 {
-        i -= 1;
+    for i in (0..k).rev() {
         out[i] = ascii(rest % base);
         rest /= base;
     }

@@ -1,11 +1,10 @@
-use Rattle.std.proofs.Common.{◌≡◌, ℕ, ◌+◌, List, [], ◌∷◌, ◌++◌, get_or, refl, sym, ap, subst, ◌∙◌, arith, add-one, append-nil, append_assoc}
+use Rattle.std.proofs.Common.{◌≡◌, ℕ, ◌+◌, List, [], ◌∷◌, ◌++◌, get_or, refl, sym, ap, ◌∙◌, arith, rules, add-one, append-nil, append_assoc}
 use Rattle.std.specs.Float.Ieee.{Float}
 use Rattle.std.specs.Float.{nan}
 use Rattle.written.specs.RadiusWalk.{Found}
 use Rattle.printing.specs.Text.{line, lines}
 use Rattle.printing.specs.Rows.{found, rows}
-use Rattle.printing.specs.Puts.{Puts}
-use Rattle.printing.specs.Putting.{puts_nothing, puts_then}
+use Rattle.printing.specs.Putting.{puts_nothing, puts_then, puts_as, puts_in}
 use Rattle.printing.proofs.answer.lines.Goals as goal
 
 lines_more : (l : List Found) (x : Found) → lines (l ++ (x ∷ [])) ≡ lines l ++ line x
@@ -24,20 +23,21 @@ rows_none lefts rights distances = refl
 pub loop-i-init : goal.loop-i-init
 loop-i-init c =
     let a = c.args in
-    record { in_bounds = omega arith; few = omega arith; put = subst (λ (t : List ℕ). Puts a.out.now a.at t a.out.now a.at) (rows_none a.lefts.now a.rights.now a.distances.now) puts_nothing }
+    record { same_buffer = refl; few = omega arith; put = puts_as (rows_none a.lefts.now a.rights.now a.distances.now) puts_nothing }
 
 pub loop-i-preserved : goal.loop-i-preserved
 loop-i-preserved c =
     let a = c.args in
-    let u = c.loop-i in record {
-      in_bounds = omega arith;
-      few = omega (arith, c.line-w.ensures.upper_bound);
-      put = subst (λ (t : List ℕ). Puts a.out.now a.at t c.line-w.new.out c.line-w.result) (sym (rows_more u.i a.lefts.now a.rights.now a.distances.now)) (puts_then u.invariant.put c.line-w.ensures.puts);
+    let l = c.loop-i in
+    let w = c.line.ensures in record {
+      same_buffer = w.same_buffer ∙ l.invariant.same_buffer;
+      few = omega (arith, w.upper_bound);
+      put = puts_as (sym (rows_more l.i a.lefts.now a.rights.now a.distances.now)) (puts_then l.invariant.put w.puts);
     }
 
-pub returns : goal.returns
-returns c =
+pub returns-clause-puts : goal.returns-clause-puts
+returns-clause-puts c =
     let a = c.args in
-    let u = c.loop-i in
-    let e : u.i ≡ a.n = omega arith in
-    record { puts = subst (λ (k : ℕ). Puts a.out.now a.at (lines (rows k a.lefts.now a.rights.now a.distances.now)) u.out u.w) e u.invariant.put; upper_bound = omega arith }
+    let l = c.loop-i in
+    let e : l.i ≡ a.n = omega arith in
+    puts_in (search rules) (puts_as (ap (λ (k : ℕ). lines (rows k a.lefts.now a.rights.now a.distances.now)) e) l.invariant.put)

@@ -1,4 +1,4 @@
-use Rattle.std.proofs.Common.{ℕ, ◌/◌, ap, ◌∙◌, arith}
+use Rattle.std.proofs.Common.{◌≡◌, ℕ, max, rules, ◌-◌, ◌/◌, ◌^◌, ◌≤◌, ◌<◌, ap, subst, ◌∙◌, arith}
 use Rattle.printing.proofs.Powers.{two_mul_div_le, div_pow_one, div_pow_div, pow_le_of_some, lt_pow_of_none}
 use Rattle.printing.proofs.digits.count.Goals as goal
 
@@ -13,8 +13,14 @@ loop-rest-preserved c = record {
   wanted = λ _. pow_le_of_some c.args.n c.args.base c.loop-rest.k (omega arith) (omega arith);
 }
 
-pub returns-then-k-width : goal.returns-then-k-width
-returns-then-k-width c = (omega arith, lt_pow_of_none c.args.n c.args.base c.loop-rest.k c.args.width (omega arith) (omega arith) (omega arith), omega arith)
-
-pub returns-else-k-width : goal.returns-else-k-width
-returns-else-k-width c = (omega arith, lt_pow_of_none c.args.n c.args.base c.loop-rest.k c.loop-rest.k (omega arith) (omega arith) (omega arith), λ more. c.loop-rest.invariant.wanted (omega arith))
+pub returns : goal.returns
+returns c =
+    let k = c.loop-rest.k in
+    let base = c.args.base in
+    let m : c.max.result ≡ max k c.args.width = rw c.max.ensures (search rules) in
+    let none : c.args.n / base ^ k < 1 = omega (arith, c.loop-rest.invariant.left) in
+    let most = lt_pow_of_none c.args.n base k c.max.result (omega arith) none (omega arith) in
+    let fewest = λ (more : c.args.width < c.max.result).
+    let e : k ≡ c.max.result = omega arith in
+    subst (λ (j : ℕ). base ^ (j - 1) ≤ c.args.n) e (c.loop-rest.invariant.wanted (omega arith)) in
+    (omega arith, most, fewest)

@@ -5,6 +5,3 @@ use Rattle.printing.proofs.digits.store.Given as goal
 
 abbrev pub invariant-loop-i : goal.invariant-loop-i
 invariant-loop-i l = record { kept : length l.out ≡ length l.initial.out; in_bounds : l.i ≤ l.k; digits : last_digits l.base l.i l.rest ++ drop l.i (take l.k l.out) ≡ last_digits l.base l.k l.n }
-
-abbrev pub decreases-loop-i : goal.decreases-loop-i
-decreases-loop-i l = l.i
