@@ -1,12 +1,12 @@
 -- An answer's text by its number: zero is an answer, any other a refusal, which has no lines. Assumes nothing.
-use mathlib.Core.Path.{◌≡◌, refl, subst}
+use mathlib.Core.Path.{◌≡◌, refl}
 use mathlib.Core.List.{List, ◌++◌}
 use Prim.Native.Nat.{ℕ, zero, suc}
 use lib.Ieee.{Float}
 use Rattle.written.specs.LentTree.{Tree}
 use Rattle.written.specs.RadiusWalk.{Found}
 use Rattle.written.specs.Answers.{Answer}
-use Rattle.printing.specs.Puts.{Puts}
+pub use Rattle.printing.specs.Putting.{puts_as}
 use Rattle.printing.specs.Text.{first_line, refused_line, lines, totals_line}
 use Rattle.job.specs.Printed.{text_by, join_text}
 use Rattle.job.specs.Shown.{lines_by}
@@ -21,9 +21,6 @@ text_refused (suc n) kind a l k = refl
 
 pub text_answered : (n : ℕ) (kind : List ℕ) (a : Answer) (l : List Found) → n ≡ 0 → first_line kind a.found ++ lines l ++ totals_line a.totals ≡ text_by n kind a l
 text_answered n kind a l e = rw e refl
-
-pub puts_as : {b c t u : List ℕ} {at n : ℕ} → t ≡ u → Puts b at t c n → Puts b at u c n
-puts_as {b} {c} {t} {u} {at} {n} e p = subst (λ (x : List ℕ). Puts b at x c n) e p
 
 -- the same trees, asked for the same
 pub joins_alike : {k k' m m' : ℕ} {a a' b b' : Tree} {r r' : Float} → k ≡ k' → a ≡ a' → b ≡ b' → m ≡ m' → r ≡ r'
