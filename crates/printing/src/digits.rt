@@ -43,26 +43,26 @@ fn store(n: u64, base: u64, k: usize, out: &mut [u8])
     }
 }
 
-// The decimal digits of n, at the start of out; how many there are.
-pub fn decimal_digits(n: u64, out: &mut [u8; 20]) -> usize
-    ensures in_bounds { result ≤ length out.new }
-    ensures len { IsDigitCount 10 1 n result }
-    ensures digits { take result out.new ≡ last_digits 10 result n }
+// The decimal digits of n, at the start of out.
+pub fn decimal_digits(n: u64, out: &mut [u8; 20]) -> &[u8]
+    ensures in_bounds { length result.now ≤ 20 }
+    ensures len { IsDigitCount 10 1 n (length result.now) }
+    ensures digits { result.now ≡ last_digits 10 (length result.now) n }
 {
     let k = count(n, 10, 1);
     store(n, 10, k, out);
-    k
+    &out[..k]
 }
 
-// The hexadecimal digits of n, in lower case, at the start of out, with zeros in front up to `width` digits; how many there are.
-pub fn hex_digits(n: u64, width: usize, out: &mut [u8; 16]) -> usize
+// The hexadecimal digits of n, in lower case, at the start of out, with zeros in front up to `width` digits.
+pub fn hex_digits(n: u64, width: usize, out: &mut [u8; 16]) -> &[u8]
     requires padded { 0 < width }
     requires held { width ≤ 16 }
-    ensures in_bounds { result ≤ length out.new }
-    ensures len { IsDigitCount 16 width n result }
-    ensures digits { take result out.new ≡ last_digits 16 result n }
+    ensures in_bounds { length result.now ≤ 16 }
+    ensures len { IsDigitCount 16 width n (length result.now) }
+    ensures digits { result.now ≡ last_digits 16 (length result.now) n }
 {
     let k = count(n, 16, width);
     store(n, 16, k, out);
-    k
+    &out[..k]
 }

@@ -28,8 +28,7 @@ impl Page<'_> {
         ensures upper_bound { self.new.at ≤ self.old.at + 20 }
     {
         let mut digits = [0u8; 20];
-        let k = decimal_digits(n, &mut digits);
-        self.text(&digits[..k]);
+        self.text(decimal_digits(n, &mut digits));
     }
 
     // The bits of a float, 16 hexadecimal digits.
@@ -40,7 +39,6 @@ impl Page<'_> {
         ensures upper_bound { self.new.at ≤ self.old.at + 16 }
     {
         let mut digits = [0u8; 16];
-        let k = hex_digits(bits(x), 16, &mut digits);
-        self.text(&digits[..k]);
+        self.text(hex_digits(bits(x), 16, &mut digits));
     }
 }

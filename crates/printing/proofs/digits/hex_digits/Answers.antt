@@ -10,5 +10,5 @@ held c = at_most 16 c.args.width 16 c.args.n c.count-k.result (omega arith) (ome
 pub store-requires-clause-in_bounds : goal.store-requires-clause-in_bounds
 store-requires-clause-in_bounds c = omega (arith, held (goal.at.store-requires-clause-in_bounds c).After-count-k)
 
-pub returns-clause-in_bounds : goal.returns-clause-in_bounds
-returns-clause-in_bounds c = omega (arith, held (goal.at.returns-clause-in_bounds c).After-count-k)
+pub shared_ref_as_front-result : goal.shared_ref_as_front-result
+shared_ref_as_front-result c = omega (arith, held (goal.at.shared_ref_as_front-result c).After-count-k)

@@ -1,5 +1,5 @@
 use Rattle.std.proofs.Common.{◌≡◌, ℕ, zero, suc, ◌-◌, ◌/◌, ◌%◌, ◌≤◌, ◌<◌, List, [], ◌∷◌, ◌++◌, length, take, drop, refl, sym, ap, subst, ◌∙◌, arith, sub-one, le_of_suc-le-suc, not-suc-le-zero}
-use Rattle.std.proofs.Math.ListN.{set, length-set}
+use Rattle.std.proofs.Math.ListN.{set}
 use Rattle.std.proofs.Math.Seq.{length-take-le, take-set-lt, append_snoc}
 use Rattle.printing.specs.Digits.{hex_digit_ascii, last_digits}
 use Rattle.printing.proofs.digits.store.Goals as goal
@@ -26,8 +26,5 @@ digits_step b (suc j) k rest g out some h room e =
 
 pub loop-i-preserved : goal.loop-i-preserved
 loop-i-preserved c =
-    let l = c.loop-i in record {
-      kept = simp length-set l.invariant.kept;
-      in_bounds = omega arith;
-      digits = digits_step c.args.base l.i c.args.k l.rest c.ascii.result l.out c.loop-i-test.true l.invariant.in_bounds (omega arith) c.ascii.ensures ∙ l.invariant.digits;
-    }
+    let l = c.loop-i in
+    digits_step c.args.base l.i c.args.k l.rest c.ascii.result l.out c.loop-i-test.true (omega arith) (omega arith) c.ascii.ensures ∙ l.invariant
