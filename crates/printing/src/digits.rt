@@ -10,6 +10,7 @@ fn count(n: u64, base: u64, width: usize) -> usize
 {
     let mut k = 1;
     let mut rest = n / base;
+    // A `while`, as the number of turns is what is sought.
     while rest > 0 {
         rest /= base;
         k += 1;
