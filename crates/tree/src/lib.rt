@@ -8,8 +8,12 @@ ghost use Rattle.cursor.specs.Lent.{lent_tree};
 ghost use Rattle.tree.specs.Lent.{Sized};
 ghost use Rattle.tree.specs.Told.{rule_of, told};
 
+use crate::down::down;
+use crate::order::Order;
+use crate::pivots::Pivots;
 use cursor::{Cursor, Tree};
 
+mod down;
 mod order;
 mod pivots;
 mod starts;
@@ -106,10 +110,10 @@ pub fn check(k: usize, tree: &Tree) -> Result<(), Rule>
         return Err(Rule::Coords);
     }
     let root = Cursor::root((tree.starts.len() - 1) as u32);
-    if !pivots::pivots_ok(k, tree, root) {
+    if !down::<Pivots>(k, tree, root) {
         return Err(Rule::Pivots);
     }
-    if !order::order_ok(k, tree, root) {
+    if !down::<Order>(k, tree, root) {
         return Err(Rule::Order);
     }
     Ok(())

@@ -1,11 +1,9 @@
 // Rule 7: no point of a node's left half is above its pivot, none of its right half below it, and under a pivot of +inf the right half holds none.
-ghost use Rattle.std.specs.Prelude.{◌≡◌, cond, ◌<◌};
+ghost use Rattle.std.specs.Prelude.{◌≡◌, cond};
 ghost use Rattle.std.specs.Float.Ieee.{lt};
-ghost use Rattle.written.specs.Check.{down};
-ghost use Rattle.cursor.specs.Held.{node_of};
-ghost use Rattle.cursor.specs.Lent.{lent_tree};
-ghost use Rattle.tree.specs.Lent.{Stands, none_above, none_below, halves_ok, order_at};
+ghost use Rattle.tree.specs.Lent.{none_above, none_below, halves_ok, order_at};
 
+use crate::down::NodeRule;
 use cursor::{Cursor, Tree};
 
 // 1 where x is below y, else 0: a number, so that the loops below have no branch.
@@ -48,30 +46,21 @@ fn halves_ok(left: &[f64], right: &[f64], pivot: f64) -> bool
         && (!metric::is_top(pivot) || right.is_empty())
 }
 
-fn node_ok(k: usize, tree: &Tree, c: Cursor) -> bool
-    requires { Stands k (lent_tree tree.now) (node_of c) × (0 < c.remaining) }
-    ensures { result ≡ order_at k (lent_tree tree.now) (node_of c) }
-{
-    let halves = c.split();
-    let column = c.axis(k) * tree.items.len();
-    let first = column + tree.start_of(c.first);
-    let middle = column + tree.start_of(halves.far.first);
-    let end = column + tree.start_of(c.end);
-    halves_ok(
-        &tree.coords[first..middle],
-        &tree.coords[middle..end],
-        tree.pivot(c.stem),
-    )
-}
+pub struct Order;
 
-// It holds for a node when it holds for its pivot and for both its children.
-pub fn order_ok(k: usize, tree: &Tree, c: Cursor) -> bool
-    requires { Stands k (lent_tree tree.now) (node_of c) }
-    ensures { result ≡ down (order_at k (lent_tree tree.now)) c.remaining (node_of c) }
-{
-    if c.is_leaf() {
-        return true;
+impl NodeRule for Order {
+    ghost test = { order_at };
+
+    fn holds(k: usize, tree: &Tree, c: Cursor) -> bool {
+        let halves = c.split();
+        let column = c.axis(k) * tree.items.len();
+        let first = column + tree.start_of(c.first);
+        let middle = column + tree.start_of(halves.far.first);
+        let end = column + tree.start_of(c.end);
+        halves_ok(
+            &tree.coords[first..middle],
+            &tree.coords[middle..end],
+            tree.pivot(c.stem),
+        )
     }
-    let halves = c.split();
-    node_ok(k, tree, c) && order_ok(k, tree, halves.near) && order_ok(k, tree, halves.far)
 }

@@ -8,7 +8,7 @@ use Rattle.cursor.specs.Lent.{lent_tree}
 use Rattle.tree.specs.Lent.{Stands, order_at}
 use Rattle.tree.proofs.Descent.{under}
 use Rattle.tree.proofs.check.Goals as goal
-use Rattle.tree.proofs.check.Goals.{Else-not-coords_ok, After-root-root, After-pivots_ok, After-order_ok}
+use Rattle.tree.proofs.check.Goals.{Else-not-coords_ok, After-root-root, After-down, After-down-2}
 
 pub returns-then-not-axes_ok : goal.returns-then-not-axes_ok
 unfolding refusal
@@ -46,29 +46,29 @@ from₆ : (c : Else-not-coords_ok) → refused_at c.args.k (lent_tree c.args.tre
 unfolding refusal
 from₆ c = rw (← c.if-not-axes_ok.ensures, ← c.if-not-sizes_ok.ensures, ← c.if-not-lengths_ok.ensures, ← c.if-not-starts_ok.ensures, ← c.if-not-coords_ok.ensures)
 
-told₆ : (c : After-pivots_ok) → c.pivots_ok.result ≡ keeps c.args.k (lent_tree c.args.tree.now) rule₆
-told₆ c = c.pivots_ok.ensures ∙ ap (under (pivot_ok c.args.k (lent_tree c.args.tree.now))) c.root-root.ensures
+told₆ : (c : After-down) → c.down.result ≡ keeps c.args.k (lent_tree c.args.tree.now) rule₆
+told₆ c = c.down.ensures ∙ ap (under (pivot_ok c.args.k (lent_tree c.args.tree.now))) c.root-root.ensures
 
-told₇ : (c : After-order_ok) → c.order_ok.result ≡ keeps c.args.k (lent_tree c.args.tree.now) rule₇
-told₇ c = c.order_ok.ensures ∙ ap (under (order_at c.args.k (lent_tree c.args.tree.now))) c.root-root.ensures
+told₇ : (c : After-down-2) → c.down-2.result ≡ keeps c.args.k (lent_tree c.args.tree.now) rule₇
+told₇ c = c.down-2.ensures ∙ ap (under (order_at c.args.k (lent_tree c.args.tree.now))) c.root-root.ensures
 
-pub pivots_ok-requires : goal.pivots_ok-requires
-pivots_ok-requires c = stands c
+pub down-requires : goal.down-requires
+down-requires c = stands c
 
-pub returns-then-not-pivots_ok : goal.returns-then-not-pivots_ok
-returns-then-not-pivots_ok c =
-    let at = goal.at.returns-then-not-pivots_ok c in
-    rw (← from₆ at.Else-not-coords_ok, ← told₆ at.After-pivots_ok, c.if-not-pivots_ok.true)
+pub returns-then-not-down : goal.returns-then-not-down
+returns-then-not-down c =
+    let at = goal.at.returns-then-not-down c in
+    rw (← from₆ at.Else-not-coords_ok, ← told₆ at.After-down, c.if-not-down.true)
 
-pub order_ok-requires : goal.order_ok-requires
-order_ok-requires c = stands (goal.at.order_ok-requires c).After-root-root
+pub down-requires-2 : goal.down-requires-2
+down-requires-2 c = stands (goal.at.down-requires-2 c).After-root-root
 
-pub returns-then-not-order_ok : goal.returns-then-not-order_ok
-returns-then-not-order_ok c =
-    let at = goal.at.returns-then-not-order_ok c in
-    rw (← from₆ at.Else-not-coords_ok, ← told₆ at.After-pivots_ok, c.if-not-pivots_ok.false, ← told₇ at.After-order_ok, c.if-not-order_ok.true)
+pub returns-then-not-down-2 : goal.returns-then-not-down-2
+returns-then-not-down-2 c =
+    let at = goal.at.returns-then-not-down-2 c in
+    rw (← from₆ at.Else-not-coords_ok, ← told₆ at.After-down, c.if-not-down.false, ← told₇ at.After-down-2, c.if-not-down-2.true)
 
 pub returns : goal.returns
 returns c =
     let at = goal.at.returns c in
-    rw (← from₆ at.Else-not-coords_ok, ← told₆ at.After-pivots_ok, c.if-not-pivots_ok.false, ← told₇ at.After-order_ok, c.if-not-order_ok.false)
+    rw (← from₆ at.Else-not-coords_ok, ← told₆ at.After-down, c.if-not-down.false, ← told₇ at.After-down-2, c.if-not-down-2.false)

@@ -6,8 +6,8 @@ use Rattle.cursor.specs.Lent.{lent_tree}
 use Rattle.tree.specs.Lent.{halves_ok}
 use Rattle.tree.proofs.Columns.{Reckoned, Lies, lies, halves_are, place_fits}
 use Rattle.tree.proofs.Nodes.{splits, stem_read, on, leaf_read}
-use Rattle.tree.proofs.order.node_ok.Goals as goal
-use Rattle.tree.proofs.order.node_ok.Goals.{After-start_of-3}
+use Rattle.tree.proofs.order.OrderNodeRule.holds.Goals as goal
+use Rattle.tree.proofs.order.OrderNodeRule.holds.Goals.{After-start_of-3}
 
 pub split-halves-requires : goal.split-halves-requires
 split-halves-requires c = splits c.requires.0 c.requires.1

@@ -1,7 +1,7 @@
 -- A node with a level left has its pivot among the stems. Assumes nothing.
 use Rattle.written.proofs.Laws.LentTree.{on_node}
 use Rattle.tree.proofs.Nodes.{stem_read}
-use Rattle.tree.proofs.pivots.pivot_ok.Goals as goal
+use Rattle.tree.proofs.pivots.PivotsNodeRule.holds.Goals as goal
 
 pub span-requires : goal.span-requires
 span-requires c = (on_node c.requires.0.node).ordered
