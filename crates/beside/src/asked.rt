@@ -6,16 +6,7 @@ ghost use Rattle.beside.specs.Calls.{place_ok, side_ok, pair_ok, alike_ok};
 pub fn place_ok(k: u32, coords: &[f64], n: usize, p: usize) -> bool
     ensures { result ≡ place_ok k coords.now n p }
 {
-    if 4 < k {
-        return false;
-    }
-    if 65536 < n {
-        return false;
-    }
-    if n <= p {
-        return false;
-    }
-    coords.len() == k as usize * n
+    k <= 4 && n <= 65536 && p < n && coords.len() == k as usize * n
 }
 
 // The places from `from` up to `to` of one tree.
@@ -23,16 +14,10 @@ fn side_ok(k: u32, items: &[u32], coords: &[f64], from: usize, to: usize) -> boo
     requires { k ≤ 4 }
     ensures { result ≡ side_ok k items.now coords.now from to }
 {
-    if 65536 < items.len() {
-        return false;
-    }
-    if to < from {
-        return false;
-    }
-    if items.len() < to {
-        return false;
-    }
-    coords.len() == k as usize * items.len()
+    items.len() <= 65536
+        && from <= to
+        && to <= items.len()
+        && coords.len() == k as usize * items.len()
 }
 
 pub fn pair_ok(
@@ -48,24 +33,15 @@ pub fn pair_ok(
 ) -> bool
     ensures { result ≡ pair_ok k litems.now lcoords.now ls lend ritems.now rcoords.now rs rend }
 {
-    if k < 1 {
-        return false;
-    }
-    if 4 < k {
-        return false;
-    }
-    if !side_ok(k, litems, lcoords, ls, lend) {
-        return false;
-    }
-    side_ok(k, ritems, rcoords, rs, rend)
+    1 <= k
+        && k <= 4
+        && side_ok(k, litems, lcoords, ls, lend)
+        && side_ok(k, ritems, rcoords, rs, rend)
 }
 
 // Three lengths are one.
 pub fn alike(a: usize, b: usize, c: usize) -> bool
     ensures { result ≡ alike_ok a b c }
 {
-    if a != b {
-        return false;
-    }
-    a == c
+    a == b && a == c
 }

@@ -8,7 +8,7 @@ use Rattle.join.specs.declared.answer.Answer.{Answer as Held}
 
 -- side, number found, visits, measured, ruled out, taken whole
 abbrev pub numbers : Held → List ℕ
-numbers a = a.side ∷ a.found ∷ a.visits ∷ a.measured ∷ a.ruled ∷ a.whole ∷ []
+numbers a = let t = a.tally in a.side ∷ t.found ∷ t.visits ∷ t.measured ∷ t.ruled ∷ t.whole ∷ []
 
 abbrev pub numbers_of : Answer → List ℕ
 numbers_of a = a.side ∷ a.found ∷ a.totals.visits ∷ a.totals.measured ∷ a.totals.ruled_out ∷ a.totals.whole ∷ []

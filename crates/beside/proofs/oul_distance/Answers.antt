@@ -1,12 +1,12 @@
 -- The tests of both places decide; where they pass, the places are held. Assumes nothing.
-use lib.Ieee.{div, of_bits}
-use Rattle.std.proofs.Common.{sym, ◌∙◌}
+use lib.Ieee.{of_bits}
+use Rattle.std.proofs.Common.{refl, sym, ◌∙◌}
 use Rattle.beside.proofs.oul_distance.Goals as goal
+use Rattle.beside.proofs.oul_distance.Goals.{then-not-place_ok-via-then-not-place_ok, then-not-place_ok-via-else-not-place_ok+then-not-place_ok-2}
 
 pub returns-then-not-place_ok : goal.returns-then-not-place_ok
-unfolding div of_bits
-returns-then-not-place_ok c = simp ((sym c.place_ok.ensures ∙ c.if-not-place_ok.true))
-
-pub returns-then-not-place_ok-2 : goal.returns-then-not-place_ok-2
-unfolding div of_bits
-returns-then-not-place_ok-2 c = simp ((sym c.place_ok.ensures ∙ c.if-not-place_ok.false), (sym c.place_ok-2.ensures ∙ c.if-not-place_ok-2.true))
+unfolding of_bits
+returns-then-not-place_ok c = elim c.then-not-place_ok.branch [
+  | then-not-place_ok-via-then-not-place_ok w ↦ rw (sym c.place_ok.ensures ∙ w.if-not-place_ok.true) refl
+  | then-not-place_ok-via-else-not-place_ok+then-not-place_ok-2 w ↦ rw (sym c.place_ok.ensures ∙ w.if-not-place_ok.false, sym w.place_ok-else-not-place_ok.ensures ∙ w.if-not-place_ok-2.true) refl
+]

@@ -12,4 +12,6 @@ pub returns : goal.returns
 returns c = let a = c.args in
     let fits = (sym c.alike.ensures ∙ c.if-not-alike.false) in
     let h : (a.lend - a.ls ≡ length a.items.now) × (a.lend - a.ls ≡ length a.dists.now) = alike_held fits in
-    rw ((sym c.pair_ok.ensures ∙ c.if-not-pair_ok.false), fits) (laid_out (omega (arith, h, c.update_leaf.auto)) c.update_leaf.ensures)
+    let t = c.points-trees.ensures in
+    let improved = rw (t.axes, t.left.0, t.left.1, t.right.0, t.right.1) at c.update_leaf.ensures in
+    rw ((sym c.pair_ok.ensures ∙ c.if-not-pair_ok.false), fits) (laid_out (omega (arith, h, c.update_leaf.auto)) improved)
