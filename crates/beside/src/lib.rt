@@ -19,7 +19,7 @@ ghost use Rattle.beside.specs.Calls.{place_ok, pair_ok, alike_ok, updated, impro
 mod asked;
 
 use crate::asked::{alike, pair_ok, place_ok};
-use cursor::{Tree, Trees};
+use cursor::{Places, Tree, Trees};
 use metric::{Boxes, Edge, Within};
 
 // A radius with its reading, by the flag that C passes.
@@ -168,7 +168,12 @@ pub extern "C" fn oul_leaf_counts(
         return u64::MAX;
     }
     let trees = points(k, litems, lcoords, ritems, rcoords);
-    leafcounts::leaf_counts(&trees, within(radius, under), ls, lend, rs, rend)
+    leafcounts::leaf_counts(
+        &trees,
+        within(radius, under),
+        Places { from: ls, to: lend },
+        Places { from: rs, to: rend },
+    )
 }
 
 // The pairs of two leaves that pass, as far as there is room, and how many they are; 2^64 - 1 where they are no leaf pair or the rooms differ.
@@ -201,10 +206,8 @@ pub extern "C" fn oul_leaf_pairs(
     leafpairs::leaf_pairs(
         &trees,
         within(radius, under),
-        ls,
-        lend,
-        rs,
-        rend,
+        Places { from: ls, to: lend },
+        Places { from: rs, to: rend },
         0,
         &mut *lout,
         &mut *rout,
@@ -236,6 +239,12 @@ pub extern "C" fn oul_update_leaf(
         return 0;
     }
     let trees = points(k, litems, lcoords, ritems, rcoords);
-    leafnearest::update_leaf(&trees, ls, lend, rs, rend, &mut *items, &mut *dists);
+    leafnearest::update_leaf(
+        &trees,
+        Places { from: ls, to: lend },
+        Places { from: rs, to: rend },
+        &mut *items,
+        &mut *dists,
+    );
     1
 }

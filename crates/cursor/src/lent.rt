@@ -4,7 +4,7 @@ ghost use Rattle.std.specs.Float.{nan};
 ghost use Rattle.written.specs.NodePairs.{on_side};
 ghost use Rattle.cursor.specs.Held.{side_of, Column};
 
-use crate::node::{LeafIdx, StemIdx};
+use crate::node::{Cursor, LeafIdx, StemIdx};
 
 // A lent tree: where each leaf's places begin, the pivots in Eytzinger order, and for each place its item and, axis by axis, its coordinates.
 #[derive(Clone, Copy)]
@@ -19,6 +19,13 @@ pub struct Tree<'a> {
 pub enum Side {
     Left,
     Right,
+}
+
+// The places from one up to another, of one tree: those of a leaf, or of a tile.
+#[derive(Clone, Copy, PartialEq, Eq)]
+pub struct Places {
+    pub from: usize,
+    pub to: usize,
 }
 
 // Both trees of a join, over k axes.
@@ -49,6 +56,18 @@ impl<'a> Tree<'a> {
         self.starts[leaf.0 as usize] as usize
     }
 
+    // The places under a node.
+    pub fn places(&self, node: Cursor) -> Places
+        requires { (node.first.0 < length self.now.starts.now) × (node.end.0 < length self.now.starts.now) }
+        ensures from { result.from ≡ get_or self.now.starts.now node.first.0 0 }
+        ensures to { result.to ≡ get_or self.now.starts.now node.end.0 0 }
+    {
+        Places {
+            from: self.start_of(node.first),
+            to: self.start_of(node.end),
+        }
+    }
+
     // A node's pivot.
     pub fn pivot(&self, stem: StemIdx) -> f64
         requires { stem.0 < length self.now.stems.now }
@@ -58,13 +77,13 @@ impl<'a> Tree<'a> {
     }
 
     // A tile is a part of the lent column itself: at most 32 coordinates of axis d.
-    pub fn tile(&self, d: usize, start: usize, end: usize) -> &'a [f64]
-        requires { Column self.now.coords.now (length self.now.items.now) d start end }
-        ensures value { result.now ≡ take (end - start) (drop (d * length self.now.items.now + start) self.now.coords.now) }
-        ensures len { length result.now ≡ end - start }
+    pub fn tile(&self, d: usize, tile: Places) -> &'a [f64]
+        requires { Column self.now.coords.now (length self.now.items.now) d tile.from tile.to }
+        ensures value { result.now ≡ take (tile.to - tile.from) (drop (d * length self.now.items.now + tile.from) self.now.coords.now) }
+        ensures len { length result.now ≡ tile.to - tile.from }
     {
         let column = d * self.items.len();
-        &self.coords[column + start..column + end]
+        &self.coords[column + tile.from..column + tile.to]
     }
 }
 

@@ -4,11 +4,18 @@ use Rattle.std.specs.Prelude.{List, ℕ, ◌+◌, ◌-◌, ◌^◌, ◌≤◌, l
 use Rattle.written.specs.Places.{over, cross}
 use Rattle.written.specs.Tiles.{tiles, each, by_tiles}
 use Rattle.written.specs.RadiusWalk.{Found, keep}
+use Rattle.cursor.specs.declared.lent.Trees.{Trees as HeldTrees}
+use Rattle.metric.specs.declared.within.Within.{Within}
+use Rattle.metric.specs.Edges.{edge_of}
 use Rattle.leaf.specs.Lent.{join_of, stretch}
 
 -- of two places
 abbrev pub keeps : (K : ℕ) → (radius : Float) → (edge : Edge) → (litems : List ℕ) → (lcoords : List Float) → (ritems : List ℕ) → (rcoords : List Float) → ℕ → ℕ → List Found
 keeps K radius edge litems lcoords ritems rcoords = keep (join_of K litems lcoords ritems rcoords) edge radius
+
+-- of two places of two lent trees, within a radius
+abbrev pub keeps_in : HeldTrees → Within → ℕ → ℕ → List Found
+keeps_in t w = keeps t.k w.radius (edge_of w.edge) t.left.items.now t.left.coords.now t.right.items.now t.right.coords.now
 
 module _ (f : ℕ → ℕ → List Found) where
   -- the left place p, the right places from a up to e

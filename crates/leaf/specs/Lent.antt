@@ -3,6 +3,8 @@ use Rattle.std.specs.Prelude.{◌≡◌, List, [], ℕ, ◌+◌, ◌-◌, ◌*�
 use Rattle.written.specs.Places.{Part}
 use Rattle.written.specs.LentTree.{Tree}
 use Rattle.written.specs.Boxes.{Trees}
+use Rattle.cursor.specs.declared.lent.Places.{Places}
+use Rattle.cursor.specs.declared.lent.Trees.{Trees as HeldTrees}
 
 -- the points of a tree, without its leaves
 abbrev pub points : List ℕ → List Float → Tree
@@ -32,3 +34,19 @@ pub record LeafPair (K : ℕ) (litems : List ℕ) (lcoords : List Float) (ls len
 pub record TilePair (K : ℕ) (litems : List ℕ) (lcoords : List Float) (la le : ℕ) (ritems : List ℕ) (rcoords : List Float) (ra re : ℕ) : Type 0 where
   pub pair : LeafPair K litems lcoords la le ritems rcoords ra re
   pub narrow : re ≤ ra + 32
+
+-- ---- of two lent trees
+
+abbrev pub points_in : HeldTrees → Trees
+points_in t = join_of t.k t.left.items.now t.left.coords.now t.right.items.now t.right.coords.now
+
+abbrev pub LeafPairIn : HeldTrees → (left right : Places) → Type 0
+LeafPairIn t l r = LeafPair t.k t.left.items.now t.left.coords.now l.from l.to t.right.items.now t.right.coords.now r.from r.to
+
+-- the right places are those of one tile
+abbrev pub TilePairIn : HeldTrees → (left right : Places) → Type 0
+TilePairIn t l r = TilePair t.k t.left.items.now t.left.coords.now l.from l.to t.right.items.now t.right.coords.now r.from r.to
+
+-- the left places are
+abbrev pub LeftTilePairIn : HeldTrees → (left right : Places) → Type 0
+LeftTilePairIn t l r = TilePair t.k t.right.items.now t.right.coords.now r.from r.to t.left.items.now t.left.coords.now l.from l.to

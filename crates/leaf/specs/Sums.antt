@@ -4,6 +4,8 @@ use Rattle.std.specs.Float.{nan, binary64}
 use Rattle.std.specs.Float.Ieee.{add}
 use Rattle.rounding.specs.Distance.{zero₊, dist1, distance}
 use Rattle.written.specs.Boxes.{Edge, passes}
+use Rattle.cursor.specs.declared.lent.Places.{Places}
+use Rattle.cursor.specs.declared.lent.Tree.{Tree as HeldTree}
 use Rattle.metric.specs.Lent.{HoldsPlace, point_at}
 
 -- the first n numbers of the row are f 0, f 1, ..
@@ -38,6 +40,10 @@ pub record PointTile (K : ℕ) (sums pcoords : List Float) (pn p : ℕ) (coords 
   pub point_small : pn ≤ 65536
   pub tile : TileOf K coords n a e
   pub fresh : Fresh K sums
+
+-- of a lent tree's point, and a tile of another
+abbrev pub PointTileIn : (K : ℕ) → (sums : List Float) → (one : HeldTree) → (p : ℕ) → (many : HeldTree) → (tile : Places) → Type 0
+PointTileIn K sums one p many tile = PointTile K sums one.coords.now (length one.items.now) p many.coords.now (length many.items.now) tile.from tile.to
 
 -- ---- which of them pass
 

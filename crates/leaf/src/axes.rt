@@ -2,9 +2,9 @@
 ghost use Rattle.std.specs.Prelude.{◌-◌, ◌≤◌, cond, length, get_or};
 ghost use Rattle.std.specs.Float.{nan};
 ghost use Rattle.rounding.specs.Distance.{zero₊};
-ghost use Rattle.leaf.specs.Sums.{Holds, grown, sum_to, Fresh, PointTile};
+ghost use Rattle.leaf.specs.Sums.{Holds, grown, sum_to, Fresh, PointTileIn};
 
-use cursor::Tree;
+use cursor::{Places, Tree};
 
 // One axis more of the distances: where it is the FIRST, the sums begin at 0. The row comes as a slice, since lending the array as one tells the proof how long it is.
 fn add_axis<const FIRST: bool>(sums: &mut [f64], q: f64, column: &[f64])
@@ -18,26 +18,18 @@ fn add_axis<const FIRST: bool>(sums: &mut [f64], q: f64, column: &[f64])
     }
 }
 
-// All axes but the last, of the place p of one tree against the places from `a` up to `e` of the other. With one axis nothing is to be done: the sums are 0, and are never cleared for a point.
-pub fn first_axes(
-    sums: &mut [f64; 32],
-    k: usize,
-    one: &Tree,
-    p: usize,
-    many: &Tree,
-    a: usize,
-    e: usize,
-)
-    requires { PointTile k sums.old one.now.coords.now (length one.now.items.now) p many.now.coords.now (length many.now.items.now) a e }
-    ensures holds { Holds sums.new (e - a) (sum_to one.now.coords.now (length one.now.items.now) p many.now.coords.now (length many.now.items.now) a (k - 1)) }
+// All axes but the last, of the place p of one tree against a tile of the other. With one axis nothing is to be done: the sums are 0, and are never cleared for a point.
+pub fn first_axes(sums: &mut [f64; 32], k: usize, one: &Tree, p: usize, many: &Tree, tile: Places)
+    requires { PointTileIn k sums.old one.now p many.now tile }
+    ensures holds { Holds sums.new (tile.to - tile.from) (sum_to one.now.coords.now (length one.now.items.now) p many.now.coords.now (length many.now.items.now) tile.from (k - 1)) }
     ensures fresh { Fresh k sums.new }
 {
     if k == 1 {
         return;
     }
-    add_axis::<true>(sums, one.coords[p], many.tile(0, a, e));
+    add_axis::<true>(sums, one.coords[p], many.tile(0, tile));
     for d in 1..k - 1 {
         let at = d * one.items.len() + p;
-        add_axis::<false>(sums, one.coords[at], many.tile(d, a, e));
+        add_axis::<false>(sums, one.coords[at], many.tile(d, tile));
     }
 }

@@ -3,11 +3,11 @@
 
 ghost use Rattle.std.specs.Prelude.{◌≡◌, ◌≤◌, length};
 ghost use Rattle.metric.specs.Edges.{edge_of};
-ghost use Rattle.leaf.specs.Lent.{LeafPair, TilePair};
-ghost use Rattle.leaf.specs.Sums.{Fresh, PointTile, reached, passing as passing_of, hits};
-ghost use Rattle.leaf.specs.Kept.{keeps, of_point, of_tile_pair, of_tile_leaf, of_leaves, Countable};
+ghost use Rattle.leaf.specs.Lent.{LeafPairIn, TilePairIn};
+ghost use Rattle.leaf.specs.Sums.{Fresh, PointTileIn, reached, passing as passing_of, hits};
+ghost use Rattle.leaf.specs.Kept.{keeps_in, of_point, of_tile_pair, of_tile_leaf, of_leaves, Countable};
 
-use cursor::Trees;
+use cursor::{Places, Trees, tile_end};
 use leaf::axes::first_axes;
 use leaf::passes;
 use metric::Within;
@@ -25,83 +25,71 @@ fn passing(sums: &[f64; 32], q: f64, column: &[f64], within: Within) -> u64
 }
 
 // A left point against a right tile. The sums are lent, so that they are made once for many points.
-fn point_count(
-    trees: &Trees,
-    within: Within,
-    p: usize,
-    ra: usize,
-    re: usize,
-    sums: &mut [f64; 32],
-) -> u64
-    requires { PointTile trees.now.k sums.old trees.now.left.coords.now (length trees.now.left.items.now) p trees.now.right.coords.now (length trees.now.right.items.now) ra re }
-    ensures value { result ≡ length (of_point (keeps trees.now.k within.radius (edge_of within.edge) trees.now.left.items.now trees.now.left.coords.now trees.now.right.items.now trees.now.right.coords.now) p ra re) }
+fn point_count(trees: &Trees, within: Within, p: usize, right: Places, sums: &mut [f64; 32]) -> u64
+    requires { PointTileIn trees.now.k sums.old trees.now.left p trees.now.right right }
+    ensures value { result ≡ length (of_point (keeps_in trees.now within) p right.from right.to) }
     ensures fresh { Fresh trees.now.k sums.new }
 {
-    let left = &trees.left;
-    let right = &trees.right;
-    first_axes(&mut *sums, trees.k, left, p, right, ra, re);
+    first_axes(&mut *sums, trees.k, &trees.left, p, &trees.right, right);
     let last = trees.k - 1;
-    let at = last * left.items.len() + p;
-    passing(&*sums, left.coords[at], right.tile(last, ra, re), within)
+    let at = last * trees.left.items.len() + p;
+    passing(
+        &*sums,
+        trees.left.coords[at],
+        trees.right.tile(last, right),
+        within,
+    )
 }
 
 // A left tile against a right tile.
-fn tile_counts(trees: &Trees, within: Within, la: usize, le: usize, ra: usize, re: usize) -> u64
-    requires tile_pair { TilePair trees.now.k trees.now.left.items.now trees.now.left.coords.now la le trees.now.right.items.now trees.now.right.coords.now ra re }
-    requires countable { Countable 0 (of_tile_pair (keeps trees.now.k within.radius (edge_of within.edge) trees.now.left.items.now trees.now.left.coords.now trees.now.right.items.now trees.now.right.coords.now) la le ra re) }
-    ensures { result ≡ length (of_tile_pair (keeps trees.now.k within.radius (edge_of within.edge) trees.now.left.items.now trees.now.left.coords.now trees.now.right.items.now trees.now.right.coords.now) la le ra re) }
+fn tile_counts(trees: &Trees, within: Within, left: Places, right: Places) -> u64
+    requires tile_pair { TilePairIn trees.now left right }
+    requires countable { Countable 0 (of_tile_pair (keeps_in trees.now within) left.from left.to right.from right.to) }
+    ensures { result ≡ length (of_tile_pair (keeps_in trees.now within) left.from left.to right.from right.to) }
 {
     let mut sums = [0.0; 32];
     let mut n = 0;
-    for p in la..le {
-        n += point_count(trees, within, p, ra, re, &mut sums);
+    for p in left.from..left.to {
+        n += point_count(trees, within, p, right, &mut sums);
     }
     n
 }
 
 // A left tile against the right tiles.
-fn tile_leaf_counts(
-    trees: &Trees,
-    within: Within,
-    la: usize,
-    le: usize,
-    rs: usize,
-    rend: usize,
-) -> u64
-    requires leaf_pair { LeafPair trees.now.k trees.now.left.items.now trees.now.left.coords.now la le trees.now.right.items.now trees.now.right.coords.now rs rend }
-    requires countable { Countable 0 (of_tile_leaf (keeps trees.now.k within.radius (edge_of within.edge) trees.now.left.items.now trees.now.left.coords.now trees.now.right.items.now trees.now.right.coords.now) la le rs rend) }
-    ensures { result ≡ length (of_tile_leaf (keeps trees.now.k within.radius (edge_of within.edge) trees.now.left.items.now trees.now.left.coords.now trees.now.right.items.now trees.now.right.coords.now) la le rs rend) }
+fn tile_leaf_counts(trees: &Trees, within: Within, left: Places, right: Places) -> u64
+    requires leaf_pair { LeafPairIn trees.now left right }
+    requires countable { Countable 0 (of_tile_leaf (keeps_in trees.now within) left.from left.to right.from right.to) }
+    ensures { result ≡ length (of_tile_leaf (keeps_in trees.now within) left.from left.to right.from right.to) }
 {
     let mut n = 0;
-    let mut ra = rs;
+    let mut from = right.from;
     // No index is counted: a tile begins where the one before it ended, and the last may be a short one.
-    while ra < rend {
-        let re = cursor::tile_end(ra, rend);
-        n += tile_counts(trees, within, la, le, ra, re);
-        ra = re;
+    while from < right.to {
+        let right_tile = Places {
+            from,
+            to: tile_end(from, right.to),
+        };
+        n += tile_counts(trees, within, left, right_tile);
+        from = right_tile.to;
     }
     n
 }
 
-// Two leaves: the left places from ls up to lend, the right ones from rs up to rend.
-pub fn leaf_counts(
-    trees: &Trees,
-    within: Within,
-    ls: usize,
-    lend: usize,
-    rs: usize,
-    rend: usize,
-) -> u64
-    requires { LeafPair trees.now.k trees.now.left.items.now trees.now.left.coords.now ls lend trees.now.right.items.now trees.now.right.coords.now rs rend }
-    ensures { result ≡ length (of_leaves (keeps trees.now.k within.radius (edge_of within.edge) trees.now.left.items.now trees.now.left.coords.now trees.now.right.items.now trees.now.right.coords.now) ls lend rs rend) }
+// Two leaves: the places of one against the places of the other.
+pub fn leaf_counts(trees: &Trees, within: Within, left: Places, right: Places) -> u64
+    requires { LeafPairIn trees.now left right }
+    ensures { result ≡ length (of_leaves (keeps_in trees.now within) left.from left.to right.from right.to) }
 {
     let mut n = 0;
-    let mut la = ls;
+    let mut from = left.from;
     // As the right tiles, each from the end of the one before it.
-    while la < lend {
-        let le = cursor::tile_end(la, lend);
-        n += tile_leaf_counts(trees, within, la, le, rs, rend);
-        la = le;
+    while from < left.to {
+        let left_tile = Places {
+            from,
+            to: tile_end(from, left.to),
+        };
+        n += tile_leaf_counts(trees, within, left_tile, right);
+        from = left_tile.to;
     }
     n
 }

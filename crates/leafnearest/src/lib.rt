@@ -4,11 +4,11 @@
 
 ghost use Rattle.std.specs.Prelude.{◌≡◌, cond, suc, ◌≤◌, length};
 ghost use Rattle.std.specs.Float.Ieee.{lt};
-ghost use Rattle.leaf.specs.Lent.{join_of, LeafPair, TilePair};
-ghost use Rattle.leaf.specs.Sums.{Fresh, PointTile, reached, hits};
+ghost use Rattle.leaf.specs.Lent.{points_in, LeafPairIn, LeftTilePairIn};
+ghost use Rattle.leaf.specs.Sums.{Fresh, PointTileIn, reached, hits};
 ghost use Rattle.leafnearest.specs.Answers.{answers, closer, offered, improved, Answering};
 
-use cursor::Trees;
+use cursor::{Places, Trees, tile_end};
 use leaf::axes::first_axes;
 
 // Of two values, the one that a new distance leaves: only a strictly smaller distance replaces.
@@ -54,79 +54,66 @@ fn keep_nearer(
 // One right point, the place q, against a left tile.
 fn point_nearest(
     trees: &Trees,
-    la: usize,
-    le: usize,
+    left: Places,
     q: usize,
     items: &mut [u32],
     dists: &mut [f64],
     sums: &mut [f64; 32],
 )
-    requires point_tile { PointTile trees.now.k sums.old trees.now.right.coords.now (length trees.now.right.items.now) q trees.now.left.coords.now (length trees.now.left.items.now) la le }
-    requires answering { Answering la le items.old dists.old }
-    ensures dists_after { answers items.new dists.new ≡ improved (join_of trees.now.k trees.now.left.items.now trees.now.left.coords.now trees.now.right.items.now trees.now.right.coords.now) la q (suc q) (answers items.old dists.old) }
+    requires point_tile { PointTileIn trees.now.k sums.old trees.now.right q trees.now.left left }
+    requires answering { Answering left.from left.to items.old dists.old }
+    ensures dists_after { answers items.new dists.new ≡ improved (points_in trees.now) left.from q (suc q) (answers items.old dists.old) }
     ensures fresh { Fresh trees.now.k sums.new }
 {
-    let left = &trees.left;
-    let right = &trees.right;
-    first_axes(&mut *sums, trees.k, right, q, left, la, le);
+    first_axes(&mut *sums, trees.k, &trees.right, q, &trees.left, left);
     let last = trees.k - 1;
-    let x = right.coords[last * right.items.len() + q];
-    let column = left.tile(last, la, le);
+    let x = trees.right.coords[last * trees.right.items.len() + q];
+    let column = trees.left.tile(last, left);
     if improving(&*sums, x, column, &*dists) == 0 {
         return;
     }
-    keep_nearer(&*sums, x, column, right.items[q], &mut *items, &mut *dists);
+    keep_nearer(
+        &*sums,
+        x,
+        column,
+        trees.right.items[q],
+        &mut *items,
+        &mut *dists,
+    );
 }
 
-// The right places from rs up to rend against a left tile, whose answers are lent.
-fn tile_nearest(
-    trees: &Trees,
-    la: usize,
-    le: usize,
-    rs: usize,
-    rend: usize,
-    items: &mut [u32],
-    dists: &mut [f64],
-)
-    requires tile_pair { TilePair trees.now.k trees.now.right.items.now trees.now.right.coords.now rs rend trees.now.left.items.now trees.now.left.coords.now la le }
-    requires answering { Answering la le items.old dists.old }
-    ensures { answers items.new dists.new ≡ improved (join_of trees.now.k trees.now.left.items.now trees.now.left.coords.now trees.now.right.items.now trees.now.right.coords.now) la rs rend (answers items.old dists.old) }
+// The right places against a left tile, whose answers are lent.
+fn tile_nearest(trees: &Trees, left: Places, right: Places, items: &mut [u32], dists: &mut [f64])
+    requires tile_pair { LeftTilePairIn trees.now left right }
+    requires answering { Answering left.from left.to items.old dists.old }
+    ensures { answers items.new dists.new ≡ improved (points_in trees.now) left.from right.from right.to (answers items.old dists.old) }
 {
     let mut sums = [0.0; 32];
-    for q in rs..rend {
-        point_nearest(trees, la, le, q, &mut *items, &mut *dists, &mut sums);
+    for q in right.from..right.to {
+        point_nearest(trees, left, q, &mut *items, &mut *dists, &mut sums);
     }
 }
 
-// Two leaves. What is lent of the answers is the left leaf's own stretch, from ls up to lend: nothing else can change.
-pub fn update_leaf(
-    trees: &Trees,
-    ls: usize,
-    lend: usize,
-    rs: usize,
-    rend: usize,
-    items: &mut [u32],
-    dists: &mut [f64],
-)
-    requires leaf_pair { LeafPair trees.now.k trees.now.left.items.now trees.now.left.coords.now ls lend trees.now.right.items.now trees.now.right.coords.now rs rend }
-    requires answering { Answering ls lend items.old dists.old }
-    ensures { answers items.new dists.new ≡ improved (join_of trees.now.k trees.now.left.items.now trees.now.left.coords.now trees.now.right.items.now trees.now.right.coords.now) ls rs rend (answers items.old dists.old) }
+// Two leaves. What is lent of the answers is the left leaf's own stretch, and nothing else can change.
+pub fn update_leaf(trees: &Trees, left: Places, right: Places, items: &mut [u32], dists: &mut [f64])
+    requires leaf_pair { LeafPairIn trees.now left right }
+    requires answering { Answering left.from left.to items.old dists.old }
+    ensures { answers items.new dists.new ≡ improved (points_in trees.now) left.from right.from right.to (answers items.old dists.old) }
 {
-    let mut la = ls;
+    let mut from = left.from;
     // No index is counted: a tile begins where the one before it ended, and the last may be a short one.
-    while la < lend {
-        let le = cursor::tile_end(la, lend);
-        let from = la - ls;
-        let to = le - ls;
+    while from < left.to {
+        let left_tile = Places {
+            from,
+            to: tile_end(from, left.to),
+        };
         tile_nearest(
             trees,
-            la,
-            le,
-            rs,
-            rend,
-            &mut items[from..to],
-            &mut dists[from..to],
+            left_tile,
+            right,
+            &mut items[from - left.from..left_tile.to - left.from],
+            &mut dists[from - left.from..left_tile.to - left.from],
         );
-        la = le;
+        from = left_tile.to;
     }
 }

@@ -1,12 +1,12 @@
 // One left point against a right tile: which of its points pass, and the pairs stored as far as there is room.
 ghost use Rattle.std.specs.Prelude.{◌≡◌, ◌≤◌, length, take};
 ghost use Rattle.metric.specs.Edges.{edge_of};
-ghost use Rattle.leaf.specs.Sums.{Holds, row, reached, Fresh, PointTile, passing, hits};
-ghost use Rattle.leaf.specs.Kept.{keeps, of_point, Countable};
+ghost use Rattle.leaf.specs.Sums.{Holds, row, reached, Fresh, PointTileIn, passing, hits};
+ghost use Rattle.leaf.specs.Kept.{keeps_in, of_point, Countable};
 ghost use Rattle.rooms.specs.Rooms.{filling, puts, SameRooms};
 ghost use Rattle.rooms.specs.Emitted.{places_of};
 
-use cursor::Trees;
+use cursor::{Places, Trees};
 use leaf::axes::first_axes;
 use leaf::passes;
 use metric::Within;
@@ -44,8 +44,7 @@ pub fn point_tile(
     trees: &Trees,
     within: Within,
     p: usize,
-    ra: usize,
-    re: usize,
+    right: Places,
     found: u64,
     lout: &mut [u32],
     rout: &mut [u32],
@@ -54,29 +53,27 @@ pub fn point_tile(
     dists: &mut [f64; 32],
     places: &mut [u32; 32],
 ) -> u64
-    requires point_tile { PointTile trees.now.k sums.old trees.now.left.coords.now (length trees.now.left.items.now) p trees.now.right.coords.now (length trees.now.right.items.now) ra re }
+    requires point_tile { PointTileIn trees.now.k sums.old trees.now.left p trees.now.right right }
     requires same_rooms { SameRooms lout.old rout.old dout.old }
-    requires countable { Countable found (of_point (keeps trees.now.k within.radius (edge_of within.edge) trees.now.left.items.now trees.now.left.coords.now trees.now.right.items.now trees.now.right.coords.now) p ra re) }
-    ensures dout_after { filling result lout.new rout.new dout.new ≡ puts (filling found lout.old rout.old dout.old) (of_point (keeps trees.now.k within.radius (edge_of within.edge) trees.now.left.items.now trees.now.left.coords.now trees.now.right.items.now trees.now.right.coords.now) p ra re) }
+    requires countable { Countable found (of_point (keeps_in trees.now within) p right.from right.to) }
+    ensures dout_after { filling result lout.new rout.new dout.new ≡ puts (filling found lout.old rout.old dout.old) (of_point (keeps_in trees.now within) p right.from right.to) }
     ensures fresh { Fresh trees.now.k sums.new }
 {
-    let left = &trees.left;
-    let right = &trees.right;
-    first_axes(&mut *sums, trees.k, left, p, right, ra, re);
+    first_axes(&mut *sums, trees.k, &trees.left, p, &trees.right, right);
     let last = trees.k - 1;
-    let at = last * left.items.len() + p;
+    let at = last * trees.left.items.len() + p;
     let m = last_axis(
         &*sums,
-        left.coords[at],
-        right.tile(last, ra, re),
+        trees.left.coords[at],
+        trees.right.tile(last, right),
         within,
         dists,
     ) as usize;
     if m == 0 {
         return found;
     }
-    let item = left.items[p];
-    let part = &right.items[ra..re];
+    let item = trees.left.items[p];
+    let part = &trees.right.items[right.from..right.to];
     if m == part.len() {
         return emit_all(
             &*dists, item, part, found, &mut *lout, &mut *rout, &mut *dout,

@@ -34,16 +34,14 @@ fn measure(
     ensures { work_of result lout.new rout.new dout.new ≡ after (lent_trees trees.now) (edge_of within.edge) within.radius counting (pair_at at (boxes_of [] [])) measured (work_of t lout.old rout.old dout.old) }
 {
     let n = area(trees, at);
-    let ls = trees.left.start_of(at.left.first);
-    let lend = trees.left.start_of(at.left.end);
-    let rs = trees.right.start_of(at.right.first);
-    let rend = trees.right.start_of(at.right.end);
+    let left = trees.left.places(at.left);
+    let right = trees.right.places(at.right);
     if counting {
-        let more = leafcounts::leaf_counts(trees, within, ls, lend, rs, rend);
+        let more = leafcounts::leaf_counts(trees, within, left, right);
         return t.measured(n, t.found + more);
     }
     let found = leafpairs::leaf_pairs(
-        trees, within, ls, lend, rs, rend, t.found, &mut *lout, &mut *rout, &mut *dout,
+        trees, within, left, right, t.found, &mut *lout, &mut *rout, &mut *dout,
     );
     t.measured(n, found)
 }

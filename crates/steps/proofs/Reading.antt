@@ -1,7 +1,7 @@
 -- What a node pair of two accepted trees lets the code read. Assumes nothing.
 use mathlib.Core.Path.{◌≡◌, refl}
 use mathlib.Core.List.{[]}
-use Prim.Native.Nat.{ℕ, ◌≤◌, ◌<◌}
+use Prim.Native.Nat.{◌≤◌, ◌<◌}
 use native.Mathlib.Omega.{arith}
 use Rattle.written.specs.LentTree.{start, Cursor, Node}
 use Rattle.written.specs.Check.{Rule, rule₁, rule₂, rule₃, rule₄}

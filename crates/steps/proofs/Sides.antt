@@ -1,6 +1,5 @@
 -- What stands on a side, as the code holds it and as the walk's definitions have it; and one side put anew. Assumes nothing.
 use mathlib.Core.Path.{◌≡◌, refl, ap, ap₂, ◌∙◌}
-use Prim.Native.Nat.{ℕ}
 use Rattle.written.specs.LentTree.{Cursor}
 use Rattle.written.specs.Boxes.{Boxes}
 use Rattle.written.specs.NodePairs.{Side, left_side, right_side, NodePair, on_side, moved}

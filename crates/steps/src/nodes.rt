@@ -53,7 +53,8 @@ fn points(tree: &Tree, node: Cursor) -> u64
     requires { Within tree.now.starts.now (node_of node) }
     ensures { result ≡ points_of tree.now.starts.now (node_of node) }
 {
-    (tree.start_of(node.end) - tree.start_of(node.first)) as u64
+    let places = tree.places(node);
+    (places.to - places.from) as u64
 }
 
 // How many pairs of points are under two nodes.

@@ -8,4 +8,4 @@ pub returns : goal.returns
 returns c = let a = c.args in
     let first = c.first_axes in
     let t = c.tile in
-    record { value = tile_passing a.trees.now.k a.within.radius (edge_of a.within.edge) a.trees.now.left.items.now a.trees.now.left.coords.now a.trees.now.right.items.now a.trees.now.right.coords.now a.p a.ra (a.re - a.ra) first.new.sums t.result.now c.passing.result c.requires.some_axes first.ensures.holds t.ensures.value t.ensures.len c.passing.ensures; fresh = first.ensures.fresh }
+    record { value = tile_passing a.trees.now.k a.within.radius (edge_of a.within.edge) a.trees.now.left.items.now a.trees.now.left.coords.now a.trees.now.right.items.now a.trees.now.right.coords.now a.p a.right.from (a.right.to - a.right.from) first.new.sums t.result.now c.passing.result c.requires.some_axes first.ensures.holds t.ensures.value t.ensures.len c.passing.ensures; fresh = first.ensures.fresh }

@@ -17,9 +17,9 @@ loop-p-init c = (c.requires.tile_pair, fresh_row c.args.trees.now.k, zero-add _,
 
 pub loop-p-preserved : goal.loop-p-preserved
 loop-p-preserved c =
-    let left : let a = c.args in let l = c.loop-p in let f = keeps a.trees.now.k a.within.radius (edge_of a.within.edge) a.trees.now.left.items.now a.trees.now.left.coords.now a.trees.now.right.items.now a.trees.now.right.coords.now in l.n + c.point_count-n.result + length (of_tile_pair f (suc l.p) a.le a.ra a.re) ≡ length (of_tile_pair f a.la a.le a.ra a.re) = let a = c.args in
+    let left : let a = c.args in let l = c.loop-p in let f = keeps a.trees.now.k a.within.radius (edge_of a.within.edge) a.trees.now.left.items.now a.trees.now.left.coords.now a.trees.now.right.items.now a.trees.now.right.coords.now in l.n + c.point_count-n.result + length (of_tile_pair f (suc l.p) a.left.to a.right.from a.right.to) ≡ length (of_tile_pair f a.left.from a.left.to a.right.from a.right.to) = let a = c.args in
     let l = c.loop-p in
     let f = keeps a.trees.now.k a.within.radius (edge_of a.within.edge) a.trees.now.left.items.now a.trees.now.left.coords.now a.trees.now.right.items.now a.trees.now.right.coords.now in
-    counted_next l.n _ (of_point f l.p a.ra a.re) (of_tile_pair f (suc l.p) a.le a.ra a.re) l.invariant.2 (point_next f l.p a.le a.ra a.re c.loop-p-test.true) c.point_count-n.ensures.value in
+    counted_next l.n _ (of_point f l.p a.right.from a.right.to) (of_tile_pair f (suc l.p) a.left.to a.right.from a.right.to) l.invariant.2 (point_next f l.p a.left.to a.right.from a.right.to c.loop-p-test.true) c.point_count-n.ensures.value in
     let l = c.loop-p in
     (l.invariant.0, c.point_count-n.ensures.fresh, rw (add-one l.p) left, l.invariant.3)

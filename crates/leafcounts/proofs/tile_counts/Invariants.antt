@@ -11,4 +11,4 @@ use Rattle.leafcounts.proofs.tile_counts.Given as goal
 abbrev pub invariant-loop-p : goal.invariant-loop-p
 invariant-loop-p l =
     let f = keeps l.trees.k l.within.radius (edge_of l.within.edge) l.trees.left.items.now l.trees.left.coords.now l.trees.right.items.now l.trees.right.coords.now in
-    TilePair l.trees.k l.trees.left.items.now l.trees.left.coords.now l.la l.le l.trees.right.items.now l.trees.right.coords.now l.ra l.re × Fresh l.trees.k l.sums × (l.n + length (of_tile_pair f l.p l.le l.ra l.re) ≡ length (of_tile_pair f l.la l.le l.ra l.re)) × (length (of_tile_pair f l.la l.le l.ra l.re) ≤ 2 ^ 63)
+    TilePair l.trees.k l.trees.left.items.now l.trees.left.coords.now l.fn.left.from l.fn.left.to l.trees.right.items.now l.trees.right.coords.now l.right.from l.right.to × Fresh l.trees.k l.sums × (l.n + length (of_tile_pair f l.p l.fn.left.to l.right.from l.right.to) ≡ length (of_tile_pair f l.fn.left.from l.fn.left.to l.right.from l.right.to)) × (length (of_tile_pair f l.fn.left.from l.fn.left.to l.right.from l.right.to) ≤ 2 ^ 63)

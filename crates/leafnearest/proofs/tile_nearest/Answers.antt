@@ -18,9 +18,9 @@ loop-q-preserved c = let w = c.loop-q in
     let a = c.args in
     let p = c.point_nearest in
     let j = join_of a.trees.now.k a.trees.now.left.items.now a.trees.now.left.coords.now a.trees.now.right.items.now a.trees.now.right.coords.now in
-    (w.invariant.0, search rules, p.ensures.fresh, ap (improved j a.la (w.q + 1) a.rend) p.ensures.dists_after ∙ improved_next j a.la (answers w.items w.dists) w.q a.rend (omega (arith, c.loop-q-test.true)) ∙ w.invariant.3)
+    (w.invariant.0, search rules, p.ensures.fresh, ap (improved j a.left.from (w.q + 1) a.right.to) p.ensures.dists_after ∙ improved_next j a.left.from (answers w.items w.dists) w.q a.right.to (omega (arith, c.loop-q-test.true)) ∙ w.invariant.3)
 
 pub returns : goal.returns
 returns c = let w = c.loop-q in
     let a = c.args in
-    sym (improved_none (join_of a.trees.now.k a.trees.now.left.items.now a.trees.now.left.coords.now a.trees.now.right.items.now a.trees.now.right.coords.now) a.la (answers w.items w.dists) w.q a.rend (omega (arith, c.loop-q-test.false))) ∙ w.invariant.3
+    sym (improved_none (join_of a.trees.now.k a.trees.now.left.items.now a.trees.now.left.coords.now a.trees.now.right.items.now a.trees.now.right.coords.now) a.left.from (answers w.items w.dists) w.q a.right.to (omega (arith, c.loop-q-test.false))) ∙ w.invariant.3

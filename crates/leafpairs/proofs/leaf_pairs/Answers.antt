@@ -14,32 +14,32 @@ use Rattle.leafpairs.proofs.leaf_pairs.Goals as goal
 pub tile_leaf-n-requires : goal.tile_leaf-n-requires
 tile_leaf-n-requires c =
     let kept : ℕ → ℕ → List Found = let a = c.args in keeps a.trees.now.k a.within.radius (edge_of a.within.edge) a.trees.now.left.items.now a.trees.now.left.coords.now a.trees.now.right.items.now a.trees.now.right.coords.now in
-    let here : List Found = let a = c.args in of_tile_leaf kept c.loop-la.la c.tile_end-le.result a.rs a.rend in
-    let after : List Found = let a = c.args in of_leaves kept c.tile_end-le.result a.lend a.rs a.rend in
-    let first : let a = c.args in of_leaves kept c.loop-la.la a.lend a.rs a.rend ≡ here ++ after = let a = c.args in
+    let here : List Found = let a = c.args in of_tile_leaf kept c.loop-from.from c.tile_end.result a.right.from a.right.to in
+    let after : List Found = let a = c.args in of_leaves kept c.tile_end.result a.left.to a.right.from a.right.to in
+    let first : let a = c.args in of_leaves kept c.loop-from.from a.left.to a.right.from a.right.to ≡ here ++ after = let a = c.args in
     let f = kept in
-    let x = c.loop-la.la in
-    subst (λ (le : ℕ). of_leaves f x a.lend a.rs a.rend ≡ of_tile_leaf f x le a.rs a.rend ++ of_leaves f le a.lend a.rs a.rend) (sym c.tile_end-le.ensures) (leaf_next f x a.lend a.rs a.rend c.loop-la-test.true) in
-    let u = c.loop-la in
-    let e : c.tile_end-le.result ≡ u.la + min 32 (c.args.lend - u.la) = c.tile_end-le.ensures in
+    let x = c.loop-from.from in
+    subst (λ (le : ℕ). of_leaves f x a.left.to a.right.from a.right.to ≡ of_tile_leaf f x le a.right.from a.right.to ++ of_leaves f le a.left.to a.right.from a.right.to) (sym c.tile_end.ensures) (leaf_next f x a.left.to a.right.from a.right.to c.loop-from-test.true) in
+    let u = c.loop-from in
+    let e : c.tile_end.result ≡ u.from + min 32 (c.args.left.to - u.from) = c.tile_end.ensures in
     record { leaf_pair = left_part u.invariant.2 u.invariant.0 (omega (arith, e)) (omega (arith, e, u.invariant.1)); same_rooms = u.invariant.3.same; countable = next_countable u.invariant.3 here after first }
 
-pub loop-la-preserved : goal.loop-la-preserved
-loop-la-preserved c =
+pub loop-from-preserved : goal.loop-from-preserved
+loop-from-preserved c =
     let kept : ℕ → ℕ → List Found = let a = c.args in keeps a.trees.now.k a.within.radius (edge_of a.within.edge) a.trees.now.left.items.now a.trees.now.left.coords.now a.trees.now.right.items.now a.trees.now.right.coords.now in
-    let here : List Found = let a = c.args in of_tile_leaf kept c.loop-la.la c.tile_end-le.result a.rs a.rend in
-    let after : List Found = let a = c.args in of_leaves kept c.tile_end-le.result a.lend a.rs a.rend in
-    let first : let a = c.args in of_leaves kept c.loop-la.la a.lend a.rs a.rend ≡ here ++ after = let a = c.args in
+    let here : List Found = let a = c.args in of_tile_leaf kept c.loop-from.from c.tile_end.result a.right.from a.right.to in
+    let after : List Found = let a = c.args in of_leaves kept c.tile_end.result a.left.to a.right.from a.right.to in
+    let first : let a = c.args in of_leaves kept c.loop-from.from a.left.to a.right.from a.right.to ≡ here ++ after = let a = c.args in
     let f = kept in
-    let x = c.loop-la.la in
-    subst (λ (le : ℕ). of_leaves f x a.lend a.rs a.rend ≡ of_tile_leaf f x le a.rs a.rend ++ of_leaves f le a.lend a.rs a.rend) (sym c.tile_end-le.ensures) (leaf_next f x a.lend a.rs a.rend c.loop-la-test.true) in
-    let u = c.loop-la in
+    let x = c.loop-from.from in
+    subst (λ (le : ℕ). of_leaves f x a.left.to a.right.from a.right.to ≡ of_tile_leaf f x le a.right.from a.right.to ++ of_leaves f le a.left.to a.right.from a.right.to) (sym c.tile_end.ensures) (leaf_next f x a.left.to a.right.from a.right.to c.loop-from-test.true) in
+    let u = c.loop-from in
     let call = c.tile_leaf-n in
-    let e : c.tile_end-le.result ≡ u.la + min 32 (c.args.lend - u.la) = c.tile_end-le.ensures in
+    let e : c.tile_end.result ≡ u.from + min 32 (c.args.left.to - u.from) = c.tile_end.ensures in
     (omega (arith, e, u.invariant.0), omega (arith, e, u.invariant.1), u.invariant.2, next_left u.invariant.3 here after first (omega (arith, call.auto)) (omega (arith, call.auto)) (omega (arith, call.auto)) call.ensures)
 
 pub returns : goal.returns
 returns c = let a = c.args in
-    let u = c.loop-la in
+    let u = c.loop-from in
     let f = keeps a.trees.now.k a.within.radius (edge_of a.within.edge) a.trees.now.left.items.now a.trees.now.left.coords.now a.trees.now.right.items.now a.trees.now.right.coords.now in
-    none_left u.invariant.3 (leaf_done f u.la a.lend a.rs a.rend c.loop-la-test.false)
+    none_left u.invariant.3 (leaf_done f u.from a.left.to a.right.from a.right.to c.loop-from-test.false)

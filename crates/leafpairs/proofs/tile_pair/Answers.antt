@@ -17,17 +17,17 @@ point_tile-n-requires c = let a = c.args in
     let u = c.loop-p in
     let f = keeps a.trees.now.k a.within.radius (edge_of a.within.edge) a.trees.now.left.items.now a.trees.now.left.coords.now a.trees.now.right.items.now a.trees.now.right.coords.now in
     let more = c.loop-p-test.true in
-    record { point_tile = point_tile u.invariant.0 (omega arith) more u.invariant.1; same_rooms = u.invariant.2.same; countable = next_countable u.invariant.2 (of_point f u.p a.ra a.re) (of_tile_pair f (suc u.p) a.le a.ra a.re) (point_next f u.p a.le a.ra a.re more) }
+    record { point_tile = point_tile u.invariant.0 (omega arith) more u.invariant.1; same_rooms = u.invariant.2.same; countable = next_countable u.invariant.2 (of_point f u.p a.right.from a.right.to) (of_tile_pair f (suc u.p) a.left.to a.right.from a.right.to) (point_next f u.p a.left.to a.right.from a.right.to more) }
 
 pub loop-p-preserved : goal.loop-p-preserved
 loop-p-preserved c = let a = c.args in
     let u = c.loop-p in
     let call = c.point_tile-n in
     let f = keeps a.trees.now.k a.within.radius (edge_of a.within.edge) a.trees.now.left.items.now a.trees.now.left.coords.now a.trees.now.right.items.now a.trees.now.right.coords.now in
-    (u.invariant.0, call.ensures.fresh, rw (add-one u.p) (next_left u.invariant.2 (of_point f u.p a.ra a.re) (of_tile_pair f (suc u.p) a.le a.ra a.re) (point_next f u.p a.le a.ra a.re c.loop-p-test.true) (omega (arith, call.auto)) (omega (arith, call.auto)) (omega (arith, call.auto)) call.ensures.dout_after))
+    (u.invariant.0, call.ensures.fresh, rw (add-one u.p) (next_left u.invariant.2 (of_point f u.p a.right.from a.right.to) (of_tile_pair f (suc u.p) a.left.to a.right.from a.right.to) (point_next f u.p a.left.to a.right.from a.right.to c.loop-p-test.true) (omega (arith, call.auto)) (omega (arith, call.auto)) (omega (arith, call.auto)) call.ensures.dout_after))
 
 pub returns : goal.returns
 returns c = let a = c.args in
     let u = c.loop-p in
     let f = keeps a.trees.now.k a.within.radius (edge_of a.within.edge) a.trees.now.left.items.now a.trees.now.left.coords.now a.trees.now.right.items.now a.trees.now.right.coords.now in
-    none_left u.invariant.2 (points_done f u.p a.le a.ra a.re c.loop-p-test.false)
+    none_left u.invariant.2 (points_done f u.p a.left.to a.right.from a.right.to c.loop-p-test.false)

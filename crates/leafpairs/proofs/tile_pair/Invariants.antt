@@ -9,4 +9,4 @@ use Rattle.leafpairs.proofs.tile_pair.Given as goal
 abbrev pub invariant-loop-p : goal.invariant-loop-p
 invariant-loop-p l =
     let f = keeps l.trees.k l.within.radius (edge_of l.within.edge) l.trees.left.items.now l.trees.left.coords.now l.trees.right.items.now l.trees.right.coords.now in
-    TilePair l.trees.k l.trees.left.items.now l.trees.left.coords.now l.la l.le l.trees.right.items.now l.trees.right.coords.now l.ra l.re × Fresh l.trees.k l.sums × Remaining l.found l.initial.lout l.initial.rout l.initial.dout (of_tile_pair f l.la l.le l.ra l.re) l.n l.lout l.rout l.dout (of_tile_pair f l.p l.le l.ra l.re)
+    TilePair l.trees.k l.trees.left.items.now l.trees.left.coords.now l.fn.left.from l.fn.left.to l.trees.right.items.now l.trees.right.coords.now l.right.from l.right.to × Fresh l.trees.k l.sums × Remaining l.found l.initial.lout l.initial.rout l.initial.dout (of_tile_pair f l.fn.left.from l.fn.left.to l.right.from l.right.to) l.n l.lout l.rout l.dout (of_tile_pair f l.p l.fn.left.to l.right.from l.right.to)

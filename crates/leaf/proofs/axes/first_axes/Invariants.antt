@@ -7,4 +7,4 @@ use Rattle.leaf.proofs.axes.first_axes.Given as goal
 
 abbrev pub invariant-loop-d : goal.invariant-loop-d
 invariant-loop-d l =
-    (1 < l.k) × (l.k ≤ 4) × ((length l.one.items.now) ≤ 65536) × HoldsPlace l.k l.one.coords.now (length l.one.items.now) l.p × TileOf l.k l.many.coords.now (length l.many.items.now) l.a l.e × Holds l.sums (l.e - l.a) (sum_to l.one.coords.now (length l.one.items.now) l.p l.many.coords.now (length l.many.items.now) l.a l.d)
+    (1 < l.k) × (l.k ≤ 4) × ((length l.one.items.now) ≤ 65536) × HoldsPlace l.k l.one.coords.now (length l.one.items.now) l.p × TileOf l.k l.many.coords.now (length l.many.items.now) l.tile.from l.tile.to × Holds l.sums (l.tile.to - l.tile.from) (sum_to l.one.coords.now (length l.one.items.now) l.p l.many.coords.now (length l.many.items.now) l.tile.from l.d)

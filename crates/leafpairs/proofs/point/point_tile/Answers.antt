@@ -18,82 +18,82 @@ pub returns-then-m-eq0 : goal.returns-then-m-eq0
 unfolding puts
 returns-then-m-eq0 c =
     let distances : List Float = c.last_axis-m.new.dists in
-    let many : let a = c.args in c.last_axis-m.result ≡ hits (passing (edge_of a.within.edge) a.within.radius (row distances)) (a.re - a.ra) = let a = c.args in
+    let many : let a = c.args in c.last_axis-m.result ≡ hits (passing (edge_of a.within.edge) a.within.radius (row distances)) (a.right.to - a.right.from) = let a = c.args in
     let tile = c.tile in
-    hits_row (edge_of a.within.edge) a.within.radius distances (reached c.first_axes.new.sums (get_or a.trees.now.left.coords.now ((a.trees.now.k - 1) * length a.trees.now.left.items.now + a.p) nan) tile.result.now) (a.re - a.ra) (length tile.result.now) tile.ensures.len c.last_axis-m.ensures.holds c.last_axis-m.ensures.value in
-    let part : List ℕ = let a = c.args in take (a.re - a.ra) (drop a.ra a.trees.now.right.items.now) in
-    let Passing : List ℕ → Type 0 = λ l. let a = c.args in l ≡ places_of (passing (edge_of a.within.edge) a.within.radius (row distances)) (a.re - a.ra) in
-    let held : let a = c.args in Holds distances (a.re - a.ra) (sum_to a.trees.now.left.coords.now (length a.trees.now.left.items.now) a.p a.trees.now.right.coords.now (length a.trees.now.right.items.now) a.ra a.trees.now.k) = let a = c.args in
+    hits_row (edge_of a.within.edge) a.within.radius distances (reached c.first_axes.new.sums (get_or a.trees.now.left.coords.now ((a.trees.now.k - 1) * length a.trees.now.left.items.now + a.p) nan) tile.result.now) (a.right.to - a.right.from) (length tile.result.now) tile.ensures.len c.last_axis-m.ensures.holds c.last_axis-m.ensures.value in
+    let part : List ℕ = let a = c.args in take (a.right.to - a.right.from) (drop a.right.from a.trees.now.right.items.now) in
+    let Passing : List ℕ → Type 0 = λ l. let a = c.args in l ≡ places_of (passing (edge_of a.within.edge) a.within.radius (row distances)) (a.right.to - a.right.from) in
+    let held : let a = c.args in Holds distances (a.right.to - a.right.from) (sum_to a.trees.now.left.coords.now (length a.trees.now.left.items.now) a.p a.trees.now.right.coords.now (length a.trees.now.right.items.now) a.right.from a.trees.now.k) = let a = c.args in
     let tile = c.tile in
-    measured a.trees.now.k a.trees.now.left.items.now a.trees.now.left.coords.now a.p a.trees.now.right.items.now a.trees.now.right.coords.now a.ra (a.re - a.ra) c.first_axes.new.sums distances tile.result.now c.requires.point_tile.some_axes c.first_axes.ensures.holds tile.ensures.value tile.ensures.len c.last_axis-m.ensures.holds in
-    let stored : (l : List ℕ) → Passing l → let a = c.args in let s = filling a.found a.lout.now a.rout.now a.dout.now in puts s (pairs_at distances (get_or a.trees.now.left.items.now a.p 0) part l) ≡ puts s (of_point (keeps a.trees.now.k a.within.radius (edge_of a.within.edge) a.trees.now.left.items.now a.trees.now.left.coords.now a.trees.now.right.items.now a.trees.now.right.coords.now) a.p a.ra a.re) = λ l e. let a = c.args in
-    point_puts a.trees.now.k a.trees.now.left.items.now a.trees.now.left.coords.now a.p a.trees.now.right.items.now a.trees.now.right.coords.now a.ra a.within.radius (edge_of a.within.edge) a.re distances held (filling a.found a.lout.now a.rout.now a.dout.now) l e in
+    measured a.trees.now.k a.trees.now.left.items.now a.trees.now.left.coords.now a.p a.trees.now.right.items.now a.trees.now.right.coords.now a.right.from (a.right.to - a.right.from) c.first_axes.new.sums distances tile.result.now c.requires.point_tile.some_axes c.first_axes.ensures.holds tile.ensures.value tile.ensures.len c.last_axis-m.ensures.holds in
+    let stored : (l : List ℕ) → Passing l → let a = c.args in let s = filling a.found a.lout.now a.rout.now a.dout.now in puts s (pairs_at distances (get_or a.trees.now.left.items.now a.p 0) part l) ≡ puts s (of_point (keeps a.trees.now.k a.within.radius (edge_of a.within.edge) a.trees.now.left.items.now a.trees.now.left.coords.now a.trees.now.right.items.now a.trees.now.right.coords.now) a.p a.right.from a.right.to) = λ l e. let a = c.args in
+    point_puts a.trees.now.k a.trees.now.left.items.now a.trees.now.left.coords.now a.p a.trees.now.right.items.now a.trees.now.right.coords.now a.right.from a.within.radius (edge_of a.within.edge) a.right.to distances held (filling a.found a.lout.now a.rout.now a.dout.now) l e in
     record { dout_after = stored [] (sym (none_pass _ _ (sym many ∙ c.if-m-eq0.true))); fresh = c.first_axes.ensures.fresh }
 
 pub emit_all-requires : goal.emit_all-requires
 emit_all-requires c =
-    let part : List ℕ = let a = c.args in take (a.re - a.ra) (drop a.ra a.trees.now.right.items.now) in
+    let part : List ℕ = let a = c.args in take (a.right.to - a.right.from) (drop a.right.from a.trees.now.right.items.now) in
     let distances : List Float = c.last_axis-m.new.dists in
-    let Passing : List ℕ → Type 0 = λ l. let a = c.args in l ≡ places_of (passing (edge_of a.within.edge) a.within.radius (row distances)) (a.re - a.ra) in
-    let held : let a = c.args in Holds distances (a.re - a.ra) (sum_to a.trees.now.left.coords.now (length a.trees.now.left.items.now) a.p a.trees.now.right.coords.now (length a.trees.now.right.items.now) a.ra a.trees.now.k) = let a = c.args in
+    let Passing : List ℕ → Type 0 = λ l. let a = c.args in l ≡ places_of (passing (edge_of a.within.edge) a.within.radius (row distances)) (a.right.to - a.right.from) in
+    let held : let a = c.args in Holds distances (a.right.to - a.right.from) (sum_to a.trees.now.left.coords.now (length a.trees.now.left.items.now) a.p a.trees.now.right.coords.now (length a.trees.now.right.items.now) a.right.from a.trees.now.k) = let a = c.args in
     let tile = c.tile in
-    measured a.trees.now.k a.trees.now.left.items.now a.trees.now.left.coords.now a.p a.trees.now.right.items.now a.trees.now.right.coords.now a.ra (a.re - a.ra) c.first_axes.new.sums distances tile.result.now c.requires.point_tile.some_axes c.first_axes.ensures.holds tile.ensures.value tile.ensures.len c.last_axis-m.ensures.holds in
-    let many : let a = c.args in c.last_axis-m.result ≡ hits (passing (edge_of a.within.edge) a.within.radius (row distances)) (a.re - a.ra) = let a = c.args in
+    measured a.trees.now.k a.trees.now.left.items.now a.trees.now.left.coords.now a.p a.trees.now.right.items.now a.trees.now.right.coords.now a.right.from (a.right.to - a.right.from) c.first_axes.new.sums distances tile.result.now c.requires.point_tile.some_axes c.first_axes.ensures.holds tile.ensures.value tile.ensures.len c.last_axis-m.ensures.holds in
+    let many : let a = c.args in c.last_axis-m.result ≡ hits (passing (edge_of a.within.edge) a.within.radius (row distances)) (a.right.to - a.right.from) = let a = c.args in
     let tile = c.tile in
-    hits_row (edge_of a.within.edge) a.within.radius distances (reached c.first_axes.new.sums (get_or a.trees.now.left.coords.now ((a.trees.now.k - 1) * length a.trees.now.left.items.now + a.p) nan) tile.result.now) (a.re - a.ra) (length tile.result.now) tile.ensures.len c.last_axis-m.ensures.holds c.last_axis-m.ensures.value in
-    let size : let a = c.args in length part ≡ a.re - a.ra = part_size c.args.trees.now.right.items.now c.args.ra c.args.re c.requires.point_tile.tile.rising c.requires.point_tile.tile.inside in
+    hits_row (edge_of a.within.edge) a.within.radius distances (reached c.first_axes.new.sums (get_or a.trees.now.left.coords.now ((a.trees.now.k - 1) * length a.trees.now.left.items.now + a.p) nan) tile.result.now) (a.right.to - a.right.from) (length tile.result.now) tile.ensures.len c.last_axis-m.ensures.holds c.last_axis-m.ensures.value in
+    let size : let a = c.args in length part ≡ a.right.to - a.right.from = part_size c.args.trees.now.right.items.now c.args.right.from c.args.right.to c.requires.point_tile.tile.rising c.requires.point_tile.tile.inside in
     let emits : (m : ℕ) (l : List ℕ) → c.last_axis-m.result ≡ m → Passing l → Emits l m part c.args.found = λ m l is e. let a = c.args in
-    point_emits a.trees.now.k a.trees.now.left.items.now a.trees.now.left.coords.now a.p a.trees.now.right.items.now a.trees.now.right.coords.now a.ra a.within.radius (edge_of a.within.edge) a.re distances held a.found m l part e (sym is ∙ many) size (omega (arith, c.requires.point_tile.tile.narrow)) c.requires.countable in
+    point_emits a.trees.now.k a.trees.now.left.items.now a.trees.now.left.coords.now a.p a.trees.now.right.items.now a.trees.now.right.coords.now a.right.from a.within.radius (edge_of a.within.edge) a.right.to distances held a.found m l part e (sym is ∙ many) size (omega (arith, c.requires.point_tile.tile.narrow)) c.requires.countable in
     let whole : Passing (places_below (length part)) = rw size (sym (all_pass _ _ (sym many ∙ c.if-m-part.true ∙ size))) in
     record { emits = emits _ _ c.if-m-part.true whole; same_rooms = c.requires.same_rooms }
 
 pub returns-then-m-part : goal.returns-then-m-part
 returns-then-m-part c =
-    let part : List ℕ = let a = c.args in take (a.re - a.ra) (drop a.ra a.trees.now.right.items.now) in
+    let part : List ℕ = let a = c.args in take (a.right.to - a.right.from) (drop a.right.from a.trees.now.right.items.now) in
     let distances : List Float = c.last_axis-m.new.dists in
-    let Passing : List ℕ → Type 0 = λ l. let a = c.args in l ≡ places_of (passing (edge_of a.within.edge) a.within.radius (row distances)) (a.re - a.ra) in
-    let held : let a = c.args in Holds distances (a.re - a.ra) (sum_to a.trees.now.left.coords.now (length a.trees.now.left.items.now) a.p a.trees.now.right.coords.now (length a.trees.now.right.items.now) a.ra a.trees.now.k) = let a = c.args in
+    let Passing : List ℕ → Type 0 = λ l. let a = c.args in l ≡ places_of (passing (edge_of a.within.edge) a.within.radius (row distances)) (a.right.to - a.right.from) in
+    let held : let a = c.args in Holds distances (a.right.to - a.right.from) (sum_to a.trees.now.left.coords.now (length a.trees.now.left.items.now) a.p a.trees.now.right.coords.now (length a.trees.now.right.items.now) a.right.from a.trees.now.k) = let a = c.args in
     let tile = c.tile in
-    measured a.trees.now.k a.trees.now.left.items.now a.trees.now.left.coords.now a.p a.trees.now.right.items.now a.trees.now.right.coords.now a.ra (a.re - a.ra) c.first_axes.new.sums distances tile.result.now c.requires.point_tile.some_axes c.first_axes.ensures.holds tile.ensures.value tile.ensures.len c.last_axis-m.ensures.holds in
-    let stored : (l : List ℕ) → Passing l → let a = c.args in let s = filling a.found a.lout.now a.rout.now a.dout.now in puts s (pairs_at distances (get_or a.trees.now.left.items.now a.p 0) part l) ≡ puts s (of_point (keeps a.trees.now.k a.within.radius (edge_of a.within.edge) a.trees.now.left.items.now a.trees.now.left.coords.now a.trees.now.right.items.now a.trees.now.right.coords.now) a.p a.ra a.re) = λ l e. let a = c.args in
-    point_puts a.trees.now.k a.trees.now.left.items.now a.trees.now.left.coords.now a.p a.trees.now.right.items.now a.trees.now.right.coords.now a.ra a.within.radius (edge_of a.within.edge) a.re distances held (filling a.found a.lout.now a.rout.now a.dout.now) l e in
-    let many : let a = c.args in c.last_axis-m.result ≡ hits (passing (edge_of a.within.edge) a.within.radius (row distances)) (a.re - a.ra) = let a = c.args in
+    measured a.trees.now.k a.trees.now.left.items.now a.trees.now.left.coords.now a.p a.trees.now.right.items.now a.trees.now.right.coords.now a.right.from (a.right.to - a.right.from) c.first_axes.new.sums distances tile.result.now c.requires.point_tile.some_axes c.first_axes.ensures.holds tile.ensures.value tile.ensures.len c.last_axis-m.ensures.holds in
+    let stored : (l : List ℕ) → Passing l → let a = c.args in let s = filling a.found a.lout.now a.rout.now a.dout.now in puts s (pairs_at distances (get_or a.trees.now.left.items.now a.p 0) part l) ≡ puts s (of_point (keeps a.trees.now.k a.within.radius (edge_of a.within.edge) a.trees.now.left.items.now a.trees.now.left.coords.now a.trees.now.right.items.now a.trees.now.right.coords.now) a.p a.right.from a.right.to) = λ l e. let a = c.args in
+    point_puts a.trees.now.k a.trees.now.left.items.now a.trees.now.left.coords.now a.p a.trees.now.right.items.now a.trees.now.right.coords.now a.right.from a.within.radius (edge_of a.within.edge) a.right.to distances held (filling a.found a.lout.now a.rout.now a.dout.now) l e in
+    let many : let a = c.args in c.last_axis-m.result ≡ hits (passing (edge_of a.within.edge) a.within.radius (row distances)) (a.right.to - a.right.from) = let a = c.args in
     let tile = c.tile in
-    hits_row (edge_of a.within.edge) a.within.radius distances (reached c.first_axes.new.sums (get_or a.trees.now.left.coords.now ((a.trees.now.k - 1) * length a.trees.now.left.items.now + a.p) nan) tile.result.now) (a.re - a.ra) (length tile.result.now) tile.ensures.len c.last_axis-m.ensures.holds c.last_axis-m.ensures.value in
-    let size : let a = c.args in length part ≡ a.re - a.ra = part_size c.args.trees.now.right.items.now c.args.ra c.args.re c.requires.point_tile.tile.rising c.requires.point_tile.tile.inside in
+    hits_row (edge_of a.within.edge) a.within.radius distances (reached c.first_axes.new.sums (get_or a.trees.now.left.coords.now ((a.trees.now.k - 1) * length a.trees.now.left.items.now + a.p) nan) tile.result.now) (a.right.to - a.right.from) (length tile.result.now) tile.ensures.len c.last_axis-m.ensures.holds c.last_axis-m.ensures.value in
+    let size : let a = c.args in length part ≡ a.right.to - a.right.from = part_size c.args.trees.now.right.items.now c.args.right.from c.args.right.to c.requires.point_tile.tile.rising c.requires.point_tile.tile.inside in
     let whole : Passing (places_below (length part)) = rw size (sym (all_pass _ _ (sym many ∙ c.if-m-part.true ∙ size))) in
     record { dout_after = c.emit_all.ensures ∙ stored _ whole; fresh = c.first_axes.ensures.fresh }
 
 pub emit-requires : goal.emit-requires
 emit-requires c =
-    let part : List ℕ = let a = c.args in take (a.re - a.ra) (drop a.ra a.trees.now.right.items.now) in
+    let part : List ℕ = let a = c.args in take (a.right.to - a.right.from) (drop a.right.from a.trees.now.right.items.now) in
     let distances : List Float = c.last_axis-m.new.dists in
-    let Passing : List ℕ → Type 0 = λ l. let a = c.args in l ≡ places_of (passing (edge_of a.within.edge) a.within.radius (row distances)) (a.re - a.ra) in
-    let held : let a = c.args in Holds distances (a.re - a.ra) (sum_to a.trees.now.left.coords.now (length a.trees.now.left.items.now) a.p a.trees.now.right.coords.now (length a.trees.now.right.items.now) a.ra a.trees.now.k) = let a = c.args in
+    let Passing : List ℕ → Type 0 = λ l. let a = c.args in l ≡ places_of (passing (edge_of a.within.edge) a.within.radius (row distances)) (a.right.to - a.right.from) in
+    let held : let a = c.args in Holds distances (a.right.to - a.right.from) (sum_to a.trees.now.left.coords.now (length a.trees.now.left.items.now) a.p a.trees.now.right.coords.now (length a.trees.now.right.items.now) a.right.from a.trees.now.k) = let a = c.args in
     let tile = c.tile in
-    measured a.trees.now.k a.trees.now.left.items.now a.trees.now.left.coords.now a.p a.trees.now.right.items.now a.trees.now.right.coords.now a.ra (a.re - a.ra) c.first_axes.new.sums distances tile.result.now c.requires.point_tile.some_axes c.first_axes.ensures.holds tile.ensures.value tile.ensures.len c.last_axis-m.ensures.holds in
-    let many : let a = c.args in c.last_axis-m.result ≡ hits (passing (edge_of a.within.edge) a.within.radius (row distances)) (a.re - a.ra) = let a = c.args in
+    measured a.trees.now.k a.trees.now.left.items.now a.trees.now.left.coords.now a.p a.trees.now.right.items.now a.trees.now.right.coords.now a.right.from (a.right.to - a.right.from) c.first_axes.new.sums distances tile.result.now c.requires.point_tile.some_axes c.first_axes.ensures.holds tile.ensures.value tile.ensures.len c.last_axis-m.ensures.holds in
+    let many : let a = c.args in c.last_axis-m.result ≡ hits (passing (edge_of a.within.edge) a.within.radius (row distances)) (a.right.to - a.right.from) = let a = c.args in
     let tile = c.tile in
-    hits_row (edge_of a.within.edge) a.within.radius distances (reached c.first_axes.new.sums (get_or a.trees.now.left.coords.now ((a.trees.now.k - 1) * length a.trees.now.left.items.now + a.p) nan) tile.result.now) (a.re - a.ra) (length tile.result.now) tile.ensures.len c.last_axis-m.ensures.holds c.last_axis-m.ensures.value in
-    let size : let a = c.args in length part ≡ a.re - a.ra = part_size c.args.trees.now.right.items.now c.args.ra c.args.re c.requires.point_tile.tile.rising c.requires.point_tile.tile.inside in
+    hits_row (edge_of a.within.edge) a.within.radius distances (reached c.first_axes.new.sums (get_or a.trees.now.left.coords.now ((a.trees.now.k - 1) * length a.trees.now.left.items.now + a.p) nan) tile.result.now) (a.right.to - a.right.from) (length tile.result.now) tile.ensures.len c.last_axis-m.ensures.holds c.last_axis-m.ensures.value in
+    let size : let a = c.args in length part ≡ a.right.to - a.right.from = part_size c.args.trees.now.right.items.now c.args.right.from c.args.right.to c.requires.point_tile.tile.rising c.requires.point_tile.tile.inside in
     let emits : (m : ℕ) (l : List ℕ) → c.last_axis-m.result ≡ m → Passing l → Emits l m part c.args.found = λ m l is e. let a = c.args in
-    point_emits a.trees.now.k a.trees.now.left.items.now a.trees.now.left.coords.now a.p a.trees.now.right.items.now a.trees.now.right.coords.now a.ra a.within.radius (edge_of a.within.edge) a.re distances held a.found m l part e (sym is ∙ many) size (omega (arith, c.requires.point_tile.tile.narrow)) c.requires.countable in
+    point_emits a.trees.now.k a.trees.now.left.items.now a.trees.now.left.coords.now a.p a.trees.now.right.items.now a.trees.now.right.coords.now a.right.from a.within.radius (edge_of a.within.edge) a.right.to distances held a.found m l part e (sym is ∙ many) size (omega (arith, c.requires.point_tile.tile.narrow)) c.requires.countable in
     let found-places : Passing (take c.last_axis-m.result c.passing_places.new.places) = ap (λ (m : ℕ). take m c.passing_places.new.places) many ∙ (rw size at c.passing_places.ensures) in
     record { emits = emits _ _ refl found-places; same_rooms = c.requires.same_rooms }
 
 pub returns : goal.returns
 returns c =
-    let part : List ℕ = let a = c.args in take (a.re - a.ra) (drop a.ra a.trees.now.right.items.now) in
+    let part : List ℕ = let a = c.args in take (a.right.to - a.right.from) (drop a.right.from a.trees.now.right.items.now) in
     let distances : List Float = c.last_axis-m.new.dists in
-    let Passing : List ℕ → Type 0 = λ l. let a = c.args in l ≡ places_of (passing (edge_of a.within.edge) a.within.radius (row distances)) (a.re - a.ra) in
-    let held : let a = c.args in Holds distances (a.re - a.ra) (sum_to a.trees.now.left.coords.now (length a.trees.now.left.items.now) a.p a.trees.now.right.coords.now (length a.trees.now.right.items.now) a.ra a.trees.now.k) = let a = c.args in
+    let Passing : List ℕ → Type 0 = λ l. let a = c.args in l ≡ places_of (passing (edge_of a.within.edge) a.within.radius (row distances)) (a.right.to - a.right.from) in
+    let held : let a = c.args in Holds distances (a.right.to - a.right.from) (sum_to a.trees.now.left.coords.now (length a.trees.now.left.items.now) a.p a.trees.now.right.coords.now (length a.trees.now.right.items.now) a.right.from a.trees.now.k) = let a = c.args in
     let tile = c.tile in
-    measured a.trees.now.k a.trees.now.left.items.now a.trees.now.left.coords.now a.p a.trees.now.right.items.now a.trees.now.right.coords.now a.ra (a.re - a.ra) c.first_axes.new.sums distances tile.result.now c.requires.point_tile.some_axes c.first_axes.ensures.holds tile.ensures.value tile.ensures.len c.last_axis-m.ensures.holds in
-    let stored : (l : List ℕ) → Passing l → let a = c.args in let s = filling a.found a.lout.now a.rout.now a.dout.now in puts s (pairs_at distances (get_or a.trees.now.left.items.now a.p 0) part l) ≡ puts s (of_point (keeps a.trees.now.k a.within.radius (edge_of a.within.edge) a.trees.now.left.items.now a.trees.now.left.coords.now a.trees.now.right.items.now a.trees.now.right.coords.now) a.p a.ra a.re) = λ l e. let a = c.args in
-    point_puts a.trees.now.k a.trees.now.left.items.now a.trees.now.left.coords.now a.p a.trees.now.right.items.now a.trees.now.right.coords.now a.ra a.within.radius (edge_of a.within.edge) a.re distances held (filling a.found a.lout.now a.rout.now a.dout.now) l e in
-    let many : let a = c.args in c.last_axis-m.result ≡ hits (passing (edge_of a.within.edge) a.within.radius (row distances)) (a.re - a.ra) = let a = c.args in
+    measured a.trees.now.k a.trees.now.left.items.now a.trees.now.left.coords.now a.p a.trees.now.right.items.now a.trees.now.right.coords.now a.right.from (a.right.to - a.right.from) c.first_axes.new.sums distances tile.result.now c.requires.point_tile.some_axes c.first_axes.ensures.holds tile.ensures.value tile.ensures.len c.last_axis-m.ensures.holds in
+    let stored : (l : List ℕ) → Passing l → let a = c.args in let s = filling a.found a.lout.now a.rout.now a.dout.now in puts s (pairs_at distances (get_or a.trees.now.left.items.now a.p 0) part l) ≡ puts s (of_point (keeps a.trees.now.k a.within.radius (edge_of a.within.edge) a.trees.now.left.items.now a.trees.now.left.coords.now a.trees.now.right.items.now a.trees.now.right.coords.now) a.p a.right.from a.right.to) = λ l e. let a = c.args in
+    point_puts a.trees.now.k a.trees.now.left.items.now a.trees.now.left.coords.now a.p a.trees.now.right.items.now a.trees.now.right.coords.now a.right.from a.within.radius (edge_of a.within.edge) a.right.to distances held (filling a.found a.lout.now a.rout.now a.dout.now) l e in
+    let many : let a = c.args in c.last_axis-m.result ≡ hits (passing (edge_of a.within.edge) a.within.radius (row distances)) (a.right.to - a.right.from) = let a = c.args in
     let tile = c.tile in
-    hits_row (edge_of a.within.edge) a.within.radius distances (reached c.first_axes.new.sums (get_or a.trees.now.left.coords.now ((a.trees.now.k - 1) * length a.trees.now.left.items.now + a.p) nan) tile.result.now) (a.re - a.ra) (length tile.result.now) tile.ensures.len c.last_axis-m.ensures.holds c.last_axis-m.ensures.value in
-    let size : let a = c.args in length part ≡ a.re - a.ra = part_size c.args.trees.now.right.items.now c.args.ra c.args.re c.requires.point_tile.tile.rising c.requires.point_tile.tile.inside in
+    hits_row (edge_of a.within.edge) a.within.radius distances (reached c.first_axes.new.sums (get_or a.trees.now.left.coords.now ((a.trees.now.k - 1) * length a.trees.now.left.items.now + a.p) nan) tile.result.now) (a.right.to - a.right.from) (length tile.result.now) tile.ensures.len c.last_axis-m.ensures.holds c.last_axis-m.ensures.value in
+    let size : let a = c.args in length part ≡ a.right.to - a.right.from = part_size c.args.trees.now.right.items.now c.args.right.from c.args.right.to c.requires.point_tile.tile.rising c.requires.point_tile.tile.inside in
     let found-places : Passing (take c.last_axis-m.result c.passing_places.new.places) = ap (λ (m : ℕ). take m c.passing_places.new.places) many ∙ (rw size at c.passing_places.ensures) in
     record { dout_after = c.emit.ensures ∙ stored _ found-places; fresh = c.first_axes.ensures.fresh }
