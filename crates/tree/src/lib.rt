@@ -82,12 +82,7 @@ fn lengths_ok(k: usize, tree: &Tree) -> bool
 fn coords_ok(k: usize, tree: &Tree) -> bool
     ensures { result ≡ coords_ok k (lent_tree tree.now) }
 {
-    for x in tree.coords {
-        if !metric::finite(*x) {
-            return false;
-        }
-    }
-    true
+    tree.coords.iter().all(|x| metric::finite(*x))
 }
 
 // The first rule that the tree breaks, if it breaks one.

@@ -6,35 +6,16 @@ ghost use Rattle.tree.specs.Lent.{none_above, none_below, halves_ok, order_at};
 use crate::down::NodeRule;
 use cursor::{Cursor, Tree};
 
-// 1 where x is below y, else 0: a number, so that the loops below have no branch.
-fn below(x: f64, y: f64) -> u64
-    ensures { result ≡ cond (lt x y) 1 0 }
-{
-    if x < y { 1 } else { 0 }
-}
-
 fn none_above(part: &[f64], pivot: f64) -> bool
     ensures { result ≡ none_above part.now pivot }
 {
-    let mut n = 0;
-    let mut i = 0;
-    while i < part.len() {
-        n = n + below(pivot, part[i]);
-        i += 1;
-    }
-    n == 0
+    !part.iter().any(|x| pivot < *x)
 }
 
 fn none_below(part: &[f64], pivot: f64) -> bool
     ensures { result ≡ none_below part.now pivot }
 {
-    let mut n = 0;
-    let mut i = 0;
-    while i < part.len() {
-        n = n + below(part[i], pivot);
-        i += 1;
-    }
-    n == 0
+    !part.iter().any(|x| *x < pivot)
 }
 
 // The node's own pivot, against the coordinates of its two halves on its axis.

@@ -1,29 +1,22 @@
--- The loop computes `every` from the front; the code's next start stands at i + 1. Assumes nothing.
-use Rattle.std.proofs.Common.{◌≡◌, refl, sym, ◌∙◌, ◌&&◌, ℕ, ◌+◌, ◌-◌, add-one}
-use lib.Dec.{leb}
-use Rattle.written.specs.LentTree.{Tree, start}
+-- The chain goes through the leaves until one is wrong; the window's next start stands at i + 1. Assumes nothing.
+use Rattle.std.proofs.Common.{◌≡◌, refl, ◌∙◌, Bool, true, ◌&&◌, ◌↔◌, IsTrue, ℕ, ◌+◌, ◌-◌, ◌<◌, length, leb, add-one, rules, arith}
+use Rattle.written.specs.LentTree.{Tree, start, leaves}
 use Rattle.written.specs.Check.{leaf_ok}
 use Rattle.cursor.specs.Lent.{lent_tree}
-use Rattle.tree.proofs.Every.{fails_at, passes_at, all_passed}
+use Rattle.tree.proofs.Every.{all_passed, agree}
 use Rattle.tree.proofs.starts.leaves_ok.Goals as goal
 
-next-at : (K : ℕ) (t : Tree) (i : ℕ)
-    → (leb (start t i) (start t (i + 1)) && leb (start t (i + 1) - start t i) 1024) ≡ leaf_ok K t i
+abbrev test : Tree → ℕ → Bool
+test t i = leb (start t i) (start t (i + 1)) && leb (start t (i + 1) - start t i) 1024
+
+next-at : (K : ℕ) (t : Tree) (i : ℕ) → test t i ≡ leaf_ok K t i
 next-at K t i = rw (add-one i) refl
 
-pub returns-then-not-leaf_ok : goal.returns-then-not-leaf_ok
-returns-then-not-leaf_ok c =
-    let l = c.loop-i in
-    let t = lent_tree c.args.tree.now in
-    fails_at (leaf_ok c.args.k t) _ l.i c.loop-i-test.true l.invariant (sym (c.leaf_ok.ensures ∙ next-at c.args.k t l.i) ∙ c.if-not-leaf_ok.true)
-
-pub loop-i-preserved : goal.loop-i-preserved
-loop-i-preserved c =
-    let l = c.loop-i in
-    let t = lent_tree c.args.tree.now in
-    passes_at (leaf_ok c.args.k t) _ l.i c.loop-i-test.true l.invariant (sym (c.leaf_ok.ensures ∙ next-at c.args.k t l.i) ∙ c.if-not-leaf_ok.false)
+each : (c : goal.After-all) → let t = lent_tree c.args.tree.now in IsTrue c.all.result ↔ ((i : ℕ) → i + 1 < length t.starts → test t i ≡ true)
+each c = search rules
 
 pub returns : goal.returns
 returns c =
-    let l = c.loop-i in
-    all_passed (leaf_ok c.args.k (lent_tree c.args.tree.now)) _ l.i c.loop-i-test.false l.invariant
+    let t = lent_tree c.args.tree.now in
+    all_passed (test t) (leaves t) (λ e i h. (each c).0 e i (omega arith), λ h. (each c).1 (λ i k. h i (omega arith)))
+    ∙ agree (test t) (leaf_ok c.args.k t) 0 0 (leaves t) (λ i h. next-at c.args.k t (0 + i))
