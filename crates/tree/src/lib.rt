@@ -1,9 +1,9 @@
 // The check of one lent tree: rules 1 to 7 of the table, in that order. Added by the port.
 #![tactic(auto)]
 
-ghost use Rattle.std.specs.Prelude.{◌≡◌, ◌≤◌};
+ghost use Rattle.std.specs.Prelude.{◌≡◌, ◌&&◌, ◌≤◌, leb};
 ghost use Rattle.written.specs.LentTree.{stem_count};
-ghost use Rattle.written.specs.Check.{axes_ok, sizes_ok, lengths_ok, coords_ok, refusal as refusal_of, number_of};
+ghost use Rattle.written.specs.Check.{sizes_ok, lengths_ok, coords_ok, refusal as refusal_of, number_of};
 ghost use Rattle.cursor.specs.Lent.{lent_tree};
 ghost use Rattle.tree.specs.Lent.{Sized};
 ghost use Rattle.tree.specs.Told.{rule_of, told};
@@ -11,6 +11,7 @@ ghost use Rattle.tree.specs.Told.{rule_of, told};
 use crate::down::down;
 use crate::order::Order;
 use crate::pivots::Pivots;
+use crate::starts::starts_ok;
 use cursor::{Cursor, Tree};
 
 mod down;
@@ -48,17 +49,17 @@ impl Rule {
 }
 
 // 1: K is 1 to 4.
-fn axes_ok(k: usize, tree: &Tree) -> bool
-    ensures { result ≡ axes_ok k (lent_tree tree.now) }
+fn axes_ok(k: usize) -> bool
+    ensures { result ≡ (leb 1 k && leb k 4) }
 {
-    1 <= k && k <= 4
+    (1..=4).contains(&k)
 }
 
-// 2: some starts, at most 4,097 starts and 65,536 items.
-fn sizes_ok(k: usize, tree: &Tree) -> bool
-    ensures { result ≡ sizes_ok k (lent_tree tree.now) }
+// 2: some starts, at most 4,097 starts and 65,536 items. Rules 2, 4 and 5 do not ask for K, so their clauses have 0 there.
+fn sizes_ok(tree: &Tree) -> bool
+    ensures { result ≡ sizes_ok 0 (lent_tree tree.now) }
 {
-    1 <= tree.starts.len() && tree.starts.len() <= 4097 && tree.items.len() <= 65536
+    (1..=4097).contains(&tree.starts.len()) && tree.items.len() <= 65536
 }
 
 // The stems over m leaves: none below two leaves, else the next power of two.
@@ -79,8 +80,8 @@ fn lengths_ok(k: usize, tree: &Tree) -> bool
 }
 
 // 5: each coordinate is finite.
-fn coords_ok(k: usize, tree: &Tree) -> bool
-    ensures { result ≡ coords_ok k (lent_tree tree.now) }
+fn coords_ok(tree: &Tree) -> bool
+    ensures { result ≡ coords_ok 0 (lent_tree tree.now) }
 {
     tree.coords.iter().all(|x| metric::finite(*x))
 }
@@ -89,19 +90,19 @@ fn coords_ok(k: usize, tree: &Tree) -> bool
 pub fn check(k: usize, tree: &Tree) -> Result<(), Rule>
     ensures { told result ≡ refusal_of k (lent_tree tree.now) }
 {
-    if !axes_ok(k, tree) {
+    if !axes_ok(k) {
         return Err(Rule::Axes);
     }
-    if !sizes_ok(k, tree) {
+    if !sizes_ok(tree) {
         return Err(Rule::Sizes);
     }
     if !lengths_ok(k, tree) {
         return Err(Rule::Lengths);
     }
-    if !starts::starts_ok(k, tree) {
+    if !starts_ok(tree) {
         return Err(Rule::Starts);
     }
-    if !coords_ok(k, tree) {
+    if !coords_ok(tree) {
         return Err(Rule::Coords);
     }
     let root = Cursor::root((tree.starts.len() - 1) as u32);

@@ -1,6 +1,5 @@
 // Rule 7: no point of a node's left half is above its pivot, none of its right half below it, and under a pivot of +inf the right half holds none.
-ghost use Rattle.std.specs.Prelude.{◌≡◌, cond};
-ghost use Rattle.std.specs.Float.Ieee.{lt};
+ghost use Rattle.std.specs.Prelude.{◌≡◌};
 ghost use Rattle.tree.specs.Lent.{none_above, none_below, halves_ok, order_at};
 
 use crate::down::NodeRule;

@@ -1,9 +1,7 @@
 -- The recursion computes `down`: a node's own test, then its near child, then its far child. Assumes nothing.
-use Rattle.std.proofs.Common.{◌≡◌, sym, ap, ◌∙◌, ℕ, ◌<◌, subst, arith}
-use Rattle.written.specs.LentTree.{Cursor}
+use Rattle.std.proofs.Common.{◌≡◌, sym, ◌∙◌, ℕ, arith}
 use Rattle.cursor.specs.Held.{node_of}
 use Rattle.cursor.specs.Lent.{lent_tree}
-use Rattle.tree.specs.Lent.{Stands}
 use Rattle.tree.proofs.Descent.{has_level, so_far, last_passes, near_decides, own_fails, fails, far_decides}
 use Rattle.tree.proofs.Nodes.{splits, near_stands, far_stands}
 use Rattle.tree.proofs.down.+down.Goals as goal
@@ -17,9 +15,8 @@ split-halves-requires g t c = splits c.requires (has_level (node_of c.args.c) (s
 
 pub down-requires : goal.down-requires
 down-requires g t c κs within =
-    let h : 0 < c.args.c.remaining = has_level (node_of c.args.c) (sym c.if-is_leaf.ensures) in
-    let e = c.split-halves.ensures.near_value in
-    (omega (arith, ap (λ (x : Cursor). x.rest) e, h), (within, subst (Stands c.args.k (lent_tree c.args.tree.now)) (sym e) (near_stands c.requires h)))
+    let n = near_stands c.requires (has_level (node_of c.args.c) (sym c.if-is_leaf.ensures)) (node_of c.split-halves.result.near) c.split-halves.ensures.near_value in
+    (omega (arith, n.0), (within, n.1))
 
 -- what the node's own test and its near child say
 so_far_is : (g : _) (t : ℕ) (c : Joined-holds g t) → c.if-holds.value ≡ so_far (g.R.NodeRule.test c.args.k (lent_tree c.args.tree.now)) (node_of c.args.c)
@@ -32,9 +29,8 @@ so_far_is g t c =
 
 pub down-requires-then-down : goal.down-requires-then-down
 down-requires-then-down g t c κs within =
-    let h : 0 < c.args.c.remaining = has_level (node_of c.args.c) (sym c.if-is_leaf.ensures) in
-    let e = c.split-halves.ensures.far_value in
-    (omega (arith, ap (λ (x : Cursor). x.rest) e, h), (within, subst (Stands c.args.k (lent_tree c.args.tree.now)) (sym e) (far_stands c.requires h)))
+    let n = far_stands c.requires (has_level (node_of c.args.c) (sym c.if-is_leaf.ensures)) (node_of c.split-halves.result.far) c.split-halves.ensures.far_value in
+    (omega (arith, n.0), (within, n.1))
 
 pub returns-else-down : goal.returns-else-down
 returns-else-down g t c =

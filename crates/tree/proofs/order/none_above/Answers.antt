@@ -1,7 +1,6 @@
 -- The chain goes through the points until one is above. Assumes nothing.
-use Rattle.std.proofs.Common.{rules, not}
+use Rattle.std.proofs.Common.{not, length, get_or, rules}
 use Rattle.std.specs.Float.{nan}
-use Rattle.std.proofs.Common.{length, get_or}
 use lib.Ieee.{lt}
 use Rattle.tree.proofs.Every.{all_passed}
 use Rattle.tree.proofs.order.none_above.Goals as goal

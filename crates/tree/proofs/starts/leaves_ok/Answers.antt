@@ -9,8 +9,8 @@ use Rattle.tree.proofs.starts.leaves_ok.Goals as goal
 abbrev test : Tree → ℕ → Bool
 test t i = leb (start t i) (start t (i + 1)) && leb (start t (i + 1) - start t i) 1024
 
-next-at : (K : ℕ) (t : Tree) (i : ℕ) → test t i ≡ leaf_ok K t i
-next-at K t i = rw (add-one i) refl
+next-at : (t : Tree) (i : ℕ) → test t i ≡ leaf_ok 0 t i
+next-at t i = rw (add-one i) refl
 
 each : (c : goal.After-all) → let t = lent_tree c.args.tree.now in IsTrue c.all.result ↔ ((i : ℕ) → i + 1 < length t.starts → test t i ≡ true)
 each c = search rules
@@ -19,4 +19,4 @@ pub returns : goal.returns
 returns c =
     let t = lent_tree c.args.tree.now in
     all_passed (test t) (leaves t) (λ e i h. (each c).0 e i (omega arith), λ h. (each c).1 (λ i k. h i (omega arith)))
-    ∙ agree (test t) (leaf_ok c.args.k t) 0 0 (leaves t) (λ i h. next-at c.args.k t (0 + i))
+    ∙ agree (test t) (leaf_ok 0 t) 0 0 (leaves t) (λ i h. next-at t (0 + i))
