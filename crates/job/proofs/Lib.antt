@@ -1,4 +1,3 @@
-pub mod Asked
 pub mod Deciding
 pub mod Room
 pub mod Telling

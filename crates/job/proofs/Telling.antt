@@ -21,8 +21,8 @@ use Rattle.written.proofs.Laws.Points.{both_hold}
 use Rattle.printing.specs.Text.{pairs_word, count_word, nearest_word}
 use Rattle.printing.specs.Rows.{rows}
 use Rattle.printing.specs.Columns.{rows_of}
-use Rattle.join.specs.declared.answer.Answer.{Answer as Held}
-use Rattle.join.specs.Told.{answer_of, PairsTold, CountsTold, NearestTold, with_rooms, with_near_rooms}
+use Rattle.join.specs.Answering.{Held, answer_of}
+use Rattle.join.specs.Told.{PairsTold, CountsTold, NearestTold, with_rooms, with_near_rooms}
 use Rattle.job.specs.Printed.{blank, blank_distances, pair_rooms, near_rooms, answer_text, neighbours, pairs_text, counts_text, nearest_text}
 use Rattle.job.specs.Shown.{lines_by, lines_of}
 

@@ -1,26 +1,41 @@
--- An answer's text by its number: zero is an answer, any other a refusal, which has no lines. Assumes nothing.
+-- An answer's text by what it holds: what was counted has lines, a refusal has none. Assumes nothing.
 use mathlib.Core.Path.{◌≡◌, refl}
-use mathlib.Core.List.{List, ◌++◌}
-use Prim.Native.Nat.{ℕ, zero, suc}
+use mathlib.Core.List.{List}
+use Prim.Native.Nat.{ℕ}
 use lib.Ieee.{Float}
+use Rattle.std.specs.Prelude.{Err}
 use Rattle.written.specs.LentTree.{Tree}
 use Rattle.written.specs.RadiusWalk.{Found}
-use Rattle.written.specs.Answers.{Answer}
 pub use Rattle.printing.specs.Putting.{puts_as}
-use Rattle.printing.specs.Text.{first_line, refused_line, lines, totals_line}
-use Rattle.job.specs.Printed.{text_by, join_text}
-use Rattle.job.specs.Shown.{lines_by}
+use Rattle.printing.specs.Text.{refused_line}
+use Rattle.tree.specs.declared.Rule.TheVariants.{Axes, Sizes, Lengths, Starts, Coords, Pivots, Order}
+use Rattle.join.specs.declared.answer.Refusal.{Refusal}
+use Rattle.join.specs.declared.answer.Refusal.TheVariants.{Tree as OfTree, Rooms, Room}
+use Rattle.join.specs.Answering.{answer_of, refusal_number, refusal_side}
+use Rattle.job.specs.Printed.{answer_text, join_text}
+use Rattle.job.specs.Shown.{lines_of}
 
-pub no_lines : (n found : ℕ) → (n ≡ 0 → ⊥) → 0 ≡ lines_by n found
-no_lines zero found k = absurd (k refl)
-no_lines (suc n) found k = refl
+pub no_lines : (r : Refusal) → 0 ≡ lines_of (Err r)
+no_lines (OfTree side Axes) = refl
+no_lines (OfTree side Sizes) = refl
+no_lines (OfTree side Lengths) = refl
+no_lines (OfTree side Starts) = refl
+no_lines (OfTree side Coords) = refl
+no_lines (OfTree side Pivots) = refl
+no_lines (OfTree side Order) = refl
+no_lines Rooms = refl
+no_lines (Room t) = refl
 
-pub text_refused : (n : ℕ) (kind : List ℕ) (a : Answer) (l : List Found) → (n ≡ 0 → ⊥) → refused_line n a.side ≡ text_by n kind a l
-text_refused zero kind a l k = absurd (k refl)
-text_refused (suc n) kind a l k = refl
-
-pub text_answered : (n : ℕ) (kind : List ℕ) (a : Answer) (l : List Found) → n ≡ 0 → first_line kind a.found ++ lines l ++ totals_line a.totals ≡ text_by n kind a l
-text_answered n kind a l e = rw e refl
+pub text_refused : (r : Refusal) (kind : List ℕ) (l : List Found) → refused_line (refusal_number r) (refusal_side r) ≡ answer_text kind (answer_of (Err r)) l
+text_refused (OfTree side Axes) kind l = refl
+text_refused (OfTree side Sizes) kind l = refl
+text_refused (OfTree side Lengths) kind l = refl
+text_refused (OfTree side Starts) kind l = refl
+text_refused (OfTree side Coords) kind l = refl
+text_refused (OfTree side Pivots) kind l = refl
+text_refused (OfTree side Order) kind l = refl
+text_refused Rooms kind l = refl
+text_refused (Room t) kind l = refl
 
 -- the same trees, asked for the same
 pub joins_alike : {k k' m m' : ℕ} {a a' b b' : Tree} {r r' : Float} → k ≡ k' → a ≡ a' → b ≡ b' → m ≡ m' → r ≡ r'

@@ -6,7 +6,7 @@ use Rattle.reading.specs.Lays.{Lays}
 use Rattle.reading.specs.declared.layout.Layout.{Layout}
 use Rattle.printing.specs.Puts.{Puts}
 use Rattle.job.specs.Printed.{printed}
-use Rattle.join.specs.declared.answer.Answer.{Answer as Held}
+use Rattle.join.specs.Answering.{Held, answer_of}
 
 -- a job within the limits, and where its trees lie in it
 pub record Taken (s : List ℕ) (l r : Layout) : Type 0 where
@@ -21,7 +21,7 @@ lines_by zero found = found
 lines_by (suc n) found = 0
 
 abbrev pub lines_of : Held → ℕ
-lines_of a = lines_by a.number a.found
+lines_of a = lines_by (answer_of a).number (answer_of a).found
 
 -- n lines of a kind can be printed
 pub record Printable (n : ℕ) (kind lefts rights : List ℕ) (distances : List Float) : Type 0 where

@@ -5,3 +5,4 @@ pub mod Held
 pub mod Laws
 pub mod Header
 pub mod BadJob
+pub mod Mode

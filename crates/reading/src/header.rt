@@ -1,10 +1,12 @@
 // The first 16 bytes: mark, version, K, mode, a zero byte, radius.
-ghost use Rattle.std.specs.Prelude.{◌≡◌, ◌≤◌, length, MatchResult};
-ghost use Rattle.reading.specs.Header.{size_ok, mark_ok, version_ok, mode_ok, axes_ok, header_refusal};
+ghost use Rattle.std.specs.Prelude.{◌≡◌, ◌≤◌, true, false, length, MatchOption, MatchResult};
+ghost use Rattle.reading.specs.Header.{mode, size_ok, mark_ok, version_ok, mode_ok, axes_ok, header_refusal};
 ghost use Rattle.reading.specs.BadJob.{number_of};
+ghost use Rattle.reading.specs.Mode.{mode_number};
 
 use crate::bad_job::BadJob;
 use crate::little::{u16_at, u64_at};
+use crate::mode::Mode;
 
 // Neither too short for a header nor above the limit.
 fn size_ok(s: &[u8]) -> bool
@@ -29,12 +31,17 @@ fn version_ok(s: &[u8]) -> bool
     u16_at(s, 3) == 1
 }
 
-// A mode there is, the spare byte zero, and no radius for nearest.
-fn mode_ok(s: &[u8]) -> bool
+// The mode, where there is such a one, the spare byte is zero, and nearest has no radius.
+pub fn mode_at(s: &[u8]) -> Option<Mode>
     requires { 16 ≤ length s.now }
-    ensures { result ≡ mode_ok s.now }
+    ensures { MatchOption result (mode_ok s.now ≡ false) (λ m. (mode_ok s.now ≡ true) × (mode_number m ≡ mode s.now)) }
 {
-    s[6] <= 4 && s[7] == 0 && (s[6] != 4 || u64_at(s, 8) == 0)
+    let mode = Mode::of(s[6])?;
+    if s[7] == 0 && (mode != Mode::Nearest || u64_at(s, 8) == 0) {
+        Some(mode)
+    } else {
+        None
+    }
 }
 
 // K is 1 to 4.
@@ -45,10 +52,10 @@ fn axes_ok(s: &[u8]) -> bool
     1 <= s[5] && s[5] <= 4
 }
 
-// The first rule broken, where one is.
+// The mode, or the first rule broken.
 #[tactic(auto, unfolding(crate::specs::Header::header_refusal))]
-pub fn check_header(s: &[u8]) -> Result<(), BadJob>
-    ensures { MatchResult result (λ _. header_refusal s.now ≡ 0) (λ e. number_of e ≡ header_refusal s.now) }
+pub fn check_header(s: &[u8]) -> Result<Mode, BadJob>
+    ensures { MatchResult result (λ m. (header_refusal s.now ≡ 0) × (mode_number m ≡ mode s.now)) (λ e. number_of e ≡ header_refusal s.now) }
 {
     if !size_ok(s) {
         return Err(BadJob::Size);
@@ -59,11 +66,11 @@ pub fn check_header(s: &[u8]) -> Result<(), BadJob>
     if !version_ok(s) {
         return Err(BadJob::Version);
     }
-    if !mode_ok(s) {
+    let Some(mode) = mode_at(s) else {
         return Err(BadJob::Mode);
-    }
+    };
     if !axes_ok(s) {
         return Err(BadJob::Axes);
     }
-    Ok(())
+    Ok(mode)
 }

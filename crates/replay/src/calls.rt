@@ -1,179 +1,63 @@
 // The call that a job asks for, and whether it went as recorded.
-ghost use Rattle.std.specs.Prelude.{◌≤◌};
+ghost use Rattle.replay.specs.Fits.{Fits};
 
 use crate::compare::{EMPTY, FAR};
+use crate::frame::Frame;
+use crate::lengths::Lengths;
+use cursor::Trees;
+use metric::{Edge, Within};
+use reading::Mode;
 
 // Pairs into rooms of the given lengths: whether the answer, what is stored and what is not touched are as recorded.
-fn pairs_same<'a>(
-    under: bool,
-    k: u32,
-    radius: f64,
-    lstarts: &[u32],
-    lstems: &'a [f64],
-    litems: &[u32],
-    lcoords: &[f64],
-    rstarts: &[u32],
-    rstems: &'a [f64],
-    ritems: &[u32],
-    rcoords: &[f64],
-    x: usize,
-    y: usize,
-    z: usize,
-    answer: &[u8],
-    found: &[u8],
-) -> bool
-    requires { (x ≤ 1025) × (y ≤ 1025) × (z ≤ 1025) }
+fn pairs_same(trees: &Trees, within: Within, n: Lengths, f: Frame<'_>) -> bool
+    requires { Fits n }
 {
     let mut lout = [EMPTY; 1025];
     let mut rout = [EMPTY; 1025];
     let mut dout = [FAR; 1025];
-    let a = job::pairs(
-        under,
-        k,
-        radius,
-        lstarts,
-        lstems,
-        litems,
-        lcoords,
-        rstarts,
-        rstems,
-        ritems,
-        rcoords,
-        &mut lout[..x],
-        &mut rout[..y],
-        &mut dout[..z],
+    let told = join::pairs(
+        trees,
+        within,
+        &mut lout[..n.lout],
+        &mut rout[..n.rout],
+        &mut dout[..n.dout],
     );
-    if !crate::compare::answer(a, answer) {
-        return false;
-    }
-    crate::compare::rooms(found, &lout, &rout, &dout)
+    crate::compare::answer(told, f.answer) && crate::compare::rooms(f.pairs, &lout, &rout, &dout)
 }
 
 // Counts: no pair is recorded.
-fn counts_same<'a>(
-    under: bool,
-    k: u32,
-    radius: f64,
-    lstarts: &[u32],
-    lstems: &'a [f64],
-    litems: &[u32],
-    lcoords: &[f64],
-    rstarts: &[u32],
-    rstems: &'a [f64],
-    ritems: &[u32],
-    rcoords: &[f64],
-    answer: &[u8],
-    found: &[u8],
-) -> bool {
-    let a = job::counts(
-        under, k, radius, lstarts, lstems, litems, lcoords, rstarts, rstems, ritems, rcoords,
-    );
-    if !crate::compare::answer(a, answer) {
-        return false;
-    }
-    found.len() == 0
+fn counts_same(trees: &Trees, within: Within, f: Frame<'_>) -> bool {
+    crate::compare::answer(join::counts(trees, within), f.answer) && f.pairs.is_empty()
 }
 
 // Nearest into rooms of the given lengths. There is no room for left items: a record has the filling there.
-fn nearest_same<'a>(
-    k: u32,
-    lstarts: &[u32],
-    lstems: &'a [f64],
-    litems: &[u32],
-    lcoords: &[f64],
-    rstarts: &[u32],
-    rstems: &'a [f64],
-    ritems: &[u32],
-    rcoords: &[f64],
-    y: usize,
-    z: usize,
-    answer: &[u8],
-    found: &[u8],
-) -> bool
-    requires { (y ≤ 1025) × (z ≤ 1025) }
+fn nearest_same(trees: &Trees, n: Lengths, f: Frame<'_>) -> bool
+    requires { Fits n }
 {
     let none = [EMPTY; 1025];
     let mut items = [EMPTY; 1025];
     let mut dists = [FAR; 1025];
-    let a = join::nearest(
-        k,
-        lstarts,
-        lstems,
-        litems,
-        lcoords,
-        rstarts,
-        rstems,
-        ritems,
-        rcoords,
-        &mut items[..y],
-        &mut dists[..z],
-    );
-    if !crate::compare::answer(a, answer) {
-        return false;
-    }
-    crate::compare::rooms(found, &none, &items, &dists)
+    let told = join::nearest(trees, &mut items[..n.rout], &mut dists[..n.dout]);
+    crate::compare::answer(told, f.answer) && crate::compare::rooms(f.pairs, &none, &items, &dists)
 }
 
-// The call by its mode, over lent buffers.
-pub fn called<'a>(
-    mode: u32,
-    k: u32,
-    radius: f64,
-    lstarts: &[u32],
-    lstems: &'a [f64],
-    litems: &[u32],
-    lcoords: &[f64],
-    rstarts: &[u32],
-    rstems: &'a [f64],
-    ritems: &[u32],
-    rcoords: &[f64],
-    x: usize,
-    y: usize,
-    z: usize,
-    answer: &[u8],
-    found: &[u8],
-) -> bool
-    requires { (x ≤ 1025) × (y ≤ 1025) × (z ≤ 1025) }
+// The call by its mode, over lent trees.
+pub fn called(mode: Mode, radius: f64, trees: &Trees, n: Lengths, f: Frame<'_>) -> bool
+    requires { Fits n }
 {
-    if mode < 2 {
-        return pairs_same(
-            mode == 1,
-            k,
-            radius,
-            lstarts,
-            lstems,
-            litems,
-            lcoords,
-            rstarts,
-            rstems,
-            ritems,
-            rcoords,
-            x,
-            y,
-            z,
-            answer,
-            found,
-        );
-    }
-    if mode == 4 {
-        return nearest_same(
-            k, lstarts, lstems, litems, lcoords, rstarts, rstems, ritems, rcoords, y, z, answer,
-            found,
-        );
-    }
-    counts_same(
-        mode == 3,
-        k,
+    let up_to = Within {
         radius,
-        lstarts,
-        lstems,
-        litems,
-        lcoords,
-        rstarts,
-        rstems,
-        ritems,
-        rcoords,
-        answer,
-        found,
-    )
+        edge: Edge::UpTo,
+    };
+    let under = Within {
+        radius,
+        edge: Edge::Under,
+    };
+    match mode {
+        Mode::PairsUpTo => pairs_same(trees, up_to, n, f),
+        Mode::PairsUnder => pairs_same(trees, under, n, f),
+        Mode::CountsUpTo => counts_same(trees, up_to, f),
+        Mode::CountsUnder => counts_same(trees, under, f),
+        Mode::Nearest => nearest_same(trees, n, f),
+    }
 }

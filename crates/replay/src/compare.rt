@@ -1,10 +1,12 @@
 // What a call answered and left in its rooms, against what is recorded.
 ghost use Rattle.std.specs.Prelude.{◌≡◌, true, ◌+◌, ◌*◌, ◌/◌, ◌≤◌, length};
 ghost use Rattle.replay.specs.Same.{Bits, PairAt, Stored, Empty, Untouched};
+ghost use Rattle.join.specs.Answering.{answer_of, flat_of};
 ghost use Rattle.replay.specs.Recorded.{Recorded};
 
-use join::Answer;
+use join::{Answer, Refusal};
 use reading::{u32_at, u64_at};
+use steps::Tally;
 
 // What the rooms are filled with before a call. No recorded item is this number (a nearest answer has it for the left item, which has no room), and no distance is negative.
 pub const EMPTY: u32 = 0xe4e4_e4e4;
@@ -16,24 +18,26 @@ const FAR_BITS: u64 = 0xc0c8_1c80_0000_0000;
 // The answer that a record holds.
 fn recorded(s: &[u8]) -> Answer
     requires { 48 ≤ length s.now }
-    ensures { Recorded s.now result }
+    ensures { Recorded s.now (flat_of result) }
 {
     Answer {
         number: u32_at(s, 0),
         side: u32_at(s, 4),
-        found: u64_at(s, 8),
-        visits: u64_at(s, 16),
-        measured: u64_at(s, 24),
-        ruled: u64_at(s, 32),
-        whole: u64_at(s, 40),
+        tally: Tally {
+            found: u64_at(s, 8),
+            visits: u64_at(s, 16),
+            measured: u64_at(s, 24),
+            ruled: u64_at(s, 32),
+            whole: u64_at(s, 40),
+        },
     }
 }
 
 // Whether an answer is the one that a record holds.
-pub fn answer(a: Answer, s: &[u8]) -> bool
-    ensures { result ≡ true → Recorded s.now a }
+pub fn answer(told: Result<Tally, Refusal>, s: &[u8]) -> bool
+    ensures { result ≡ true → Recorded s.now (answer_of told) }
 {
-    48 <= s.len() && a == recorded(s)
+    48 <= s.len() && Answer::of(told) == recorded(s)
 }
 
 // A NaN is no recorded distance.

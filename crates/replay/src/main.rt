@@ -15,8 +15,8 @@
 mod calls;
 mod compare;
 mod frame;
-mod kind;
 mod lengths;
+mod mode;
 mod print;
 mod record;
 mod tally;

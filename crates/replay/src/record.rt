@@ -5,11 +5,12 @@ ghost use Rattle.replay.specs.Fits.{Fits, Full};
 
 use crate::calls::called;
 use crate::frame::{Frame, framed};
-use crate::kind::{Kind, kind_of};
 use crate::lengths::{Lengths, changed, fits, own};
+use crate::mode::mode_of;
 use crate::tally::Tally;
 use crate::text::text_same;
-use reading::{Layout, byte_at, decode, f64_at, lay};
+use cursor::{Tree, Trees};
+use reading::{Layout, Mode, byte_at, decode, f64_at, lay};
 
 // One tree's buffers, in arrays that no job fills.
 fn tree(
@@ -27,7 +28,7 @@ fn tree(
 }
 
 // Both trees decoded, and lent at the given lengths.
-fn decoded(f: Frame<'_>, kind: Kind, l: Layout, r: Layout, n: Lengths) -> bool
+fn decoded(f: Frame<'_>, mode: Mode, l: Layout, r: Layout, n: Lengths) -> bool
     requires in_bounds { (16 ≤ length f.job.now) × (length f.job.now ≤ 16384) }
     requires within { (Within (length f.job.now) l) × (Within (length f.job.now) r) × (Fits n) }
 {
@@ -42,28 +43,26 @@ fn decoded(f: Frame<'_>, kind: Kind, l: Layout, r: Layout, n: Lengths) -> bool
     let mut ritems = [0u32; 65537];
     let mut rcoords = [0.0f64; 2048];
     tree(job, r, &mut rstarts, &mut rstems, &mut ritems, &mut rcoords);
-    called(
-        kind as u32,
-        byte_at(job, 5),
-        f64_at(job, 8),
-        &lstarts[..n.left.starts],
-        &lstems[..n.left.stems],
-        &litems[..n.left.items],
-        &lcoords[..n.left.coords],
-        &rstarts[..n.right.starts],
-        &rstems[..n.right.stems],
-        &ritems[..n.right.items],
-        &rcoords[..n.right.coords],
-        n.lout,
-        n.rout,
-        n.dout,
-        f.answer,
-        f.pairs,
-    )
+    let trees = Trees {
+        k: byte_at(job, 5) as usize,
+        left: Tree {
+            starts: &lstarts[..n.left.starts],
+            stems: &lstems[..n.left.stems],
+            items: &litems[..n.left.items],
+            coords: &lcoords[..n.left.coords],
+        },
+        right: Tree {
+            starts: &rstarts[..n.right.starts],
+            stems: &rstems[..n.right.stems],
+            items: &ritems[..n.right.items],
+            coords: &rcoords[..n.right.coords],
+        },
+    };
+    called(mode, f64_at(job, 8), &trees, n, f)
 }
 
 // One job whose first 16 bytes are right: whether its call goes as recorded.
-fn job_same(f: Frame<'_>, kind: Kind) -> bool
+fn job_same(f: Frame<'_>, mode: Mode) -> bool
     requires { (16 ≤ length f.job.now) × (length f.job.now ≤ 16384) }
 {
     let job = f.job;
@@ -80,13 +79,13 @@ fn job_same(f: Frame<'_>, kind: Kind) -> bool
     let Some(n) = changed(own(l, r, f.room), f.buffer, f.lent) else {
         return false;
     };
-    fits(n) && decoded(f, kind, l, r, n)
+    fits(n) && decoded(f, mode, l, r, n)
 }
 
 // The join that a record asks for. One that no mode can be read of counts as different.
 fn join_counted(f: Frame<'_>, t: &mut Tally) {
-    match kind_of(f.job) {
-        Some(k) => t.join(Some(k), job_same(f, k)),
+    match mode_of(f.job) {
+        Some(mode) => t.join(Some(mode), job_same(f, mode)),
         None => t.join(None, false),
     }
 }

@@ -1,7 +1,7 @@
 // How many were compared of each kind, and how many differ.
 ghost use Rattle.std.specs.Prelude.{◌≡◌, ◌+◌, ◌-◌, ◌^◌, min, IsTrue, IsFalse};
 
-use crate::kind::Kind;
+use reading::Mode;
 
 #[derive(Clone, Copy, Default)]
 pub struct Count {
@@ -48,13 +48,13 @@ pub struct Tally {
 
 impl Tally {
     // One more join: of a mode, or of none that can be read.
-    pub fn join(&mut self, kind: Option<Kind>, same: bool) {
-        match kind {
-            Some(Kind::PairsUpTo) => self.pairs_up_to.count(same),
-            Some(Kind::PairsUnder) => self.pairs_under.count(same),
-            Some(Kind::CountsUpTo) => self.counts_up_to.count(same),
-            Some(Kind::CountsUnder) => self.counts_under.count(same),
-            Some(Kind::Nearest) => self.nearest.count(same),
+    pub fn join(&mut self, mode: Option<Mode>, same: bool) {
+        match mode {
+            Some(Mode::PairsUpTo) => self.pairs_up_to.count(same),
+            Some(Mode::PairsUnder) => self.pairs_under.count(same),
+            Some(Mode::CountsUpTo) => self.counts_up_to.count(same),
+            Some(Mode::CountsUnder) => self.counts_under.count(same),
+            Some(Mode::Nearest) => self.nearest.count(same),
             None => self.unreadable.count(same),
         }
     }
