@@ -1,28 +1,28 @@
 -- An answer's text by what it holds: what was counted has lines, a refusal has none. Assumes nothing.
 use mathlib.Core.Path.{◌≡◌, refl}
 use mathlib.Core.List.{List}
-use Prim.Native.Nat.{ℕ}
+use Prim.Native.Nat.{ℕ, zero, suc}
 use lib.Ieee.{Float}
 use Rattle.std.specs.Prelude.{Err}
 use Rattle.written.specs.LentTree.{Tree}
+use Rattle.written.specs.Check.{number_of}
 use Rattle.written.specs.RadiusWalk.{Found}
 pub use Rattle.printing.specs.Putting.{puts_as}
 use Rattle.printing.specs.Text.{refused_line}
 use Rattle.tree.specs.declared.Rule.TheVariants.{Axes, Sizes, Lengths, Starts, Coords, Pivots, Order}
+use Rattle.tree.specs.Told.{rule_of}
 use Rattle.join.specs.declared.answer.Refusal.{Refusal}
 use Rattle.join.specs.declared.answer.Refusal.TheVariants.{Tree as OfTree, Rooms, Room}
 use Rattle.join.specs.Answering.{answer_of, refusal_number, refusal_side}
 use Rattle.job.specs.Printed.{answer_text, join_text}
-use Rattle.job.specs.Shown.{lines_of}
+use Rattle.job.specs.Shown.{lines_by, lines_of}
+
+nothing_found : (n : ℕ) → 0 ≡ lines_by n 0
+nothing_found zero = refl
+nothing_found (suc n) = refl
 
 pub no_lines : (r : Refusal) → 0 ≡ lines_of (Err r)
-no_lines (OfTree side Axes) = refl
-no_lines (OfTree side Sizes) = refl
-no_lines (OfTree side Lengths) = refl
-no_lines (OfTree side Starts) = refl
-no_lines (OfTree side Coords) = refl
-no_lines (OfTree side Pivots) = refl
-no_lines (OfTree side Order) = refl
+no_lines (OfTree side rule) = nothing_found (number_of (rule_of rule))
 no_lines Rooms = refl
 no_lines (Room t) = refl
 
