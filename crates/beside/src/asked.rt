@@ -1,4 +1,4 @@
-// Whether the arguments of a call are a leaf pair, or a place, of trees that the library serves.
+// As C passes them, side by side: whether the arguments of a call are a leaf pair, or a place, of trees that the library serves.
 ghost use Rattle.std.specs.Prelude.{◌≡◌, ◌≤◌};
 ghost use Rattle.beside.specs.Calls.{place_ok, side_ok, pair_ok, alike_ok};
 

@@ -1,4 +1,5 @@
 // The leaf loops, bounds and the check, exported for the harness that runs them beside the Rust (oracle/, bench/). No function demands anything: what is no leaf pair is answered as such, and nothing is written.
+// C passes flags, pointers and lengths side by side: the signatures here are its, and the numbers told are its too.
 #![tactic(auto)]
 
 ghost use Rattle.std.specs.Prelude.{◌≡◌, ◌&&◌, cond, ◌-◌, ◌^◌, length, leb};

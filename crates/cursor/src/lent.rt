@@ -2,7 +2,7 @@
 ghost use Rattle.std.specs.Prelude.{◌≡◌, ◌+◌, ◌-◌, ◌*◌, ◌≤◌, ◌<◌, min, length, take, drop, get_or};
 ghost use Rattle.std.specs.Float.{nan};
 ghost use Rattle.written.specs.NodePairs.{on_side};
-ghost use Rattle.cursor.specs.Held.{side_of, Column};
+ghost use Rattle.cursor.specs.Held.{node_of, root_over, side_of, Column};
 
 use crate::node::{Cursor, LeafIdx, StemIdx};
 
@@ -48,6 +48,14 @@ impl<'a> Trees<'a> {
 }
 
 impl<'a> Tree<'a> {
+    // Node 1, over all leaves: one fewer than there are starts.
+    pub fn root(&self) -> Cursor
+        requires { (1 ≤ length self.now.starts.now) × (length self.now.starts.now ≤ 4097) }
+        ensures { node_of result ≡ root_over (length self.now.starts.now - 1) }
+    {
+        Cursor::root((self.starts.len() - 1) as u32)
+    }
+
     // Where a leaf's places begin; those of the leaf before end there.
     pub fn start_of(&self, leaf: LeafIdx) -> usize
         requires { leaf.0 < length self.now.starts.now }

@@ -1,5 +1,6 @@
 // The nearest answers of a left leaf, improved by the points of a right leaf (kiddo: nearest.rs, `update_leaf`).
 // The right point is outside and the left points inside: each left point still sees the right points in place order, so the answers are the same.
+// The two buffers of the answers stand side by side, here and above, as C lends them: a struct of two `&mut` would have to promise at each call that it still holds the same two.
 #![tactic(auto)]
 
 ghost use Rattle.std.specs.Prelude.{◌≡◌, cond, suc, ◌≤◌, length};

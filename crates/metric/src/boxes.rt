@@ -79,6 +79,7 @@ impl Boxes {
         sum
     }
 
+    // A loop of its own beside `lower`: one axis gives something else, and the first open side ends it.
     // The upper bound: no two points of the boxes are farther; +inf unless all sides are finite.
     pub fn upper(&self, k: usize) -> f64
         requires { k ≤ 4 }

@@ -6,7 +6,7 @@ ghost use Rattle.printing.specs.Puts.{Puts};
 
 use crate::bytes::Page;
 
-// `refused`, number and side.
+// `refused`, number and side: numbers, since they are what is printed.
 pub fn refused(out: &mut [u8], number: u32, side: u32) -> usize
     ensures puts { Puts out.old 0 (refused_line number side) out.new result }
     ensures upper_bound { result ≤ 50 }

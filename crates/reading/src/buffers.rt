@@ -17,7 +17,7 @@ fn fill<T: Little>(s: &[u8], part: Part, out: &mut [T])
     }
 }
 
-// The four buffers of one tree.
+// The four buffers of one tree, side by side: fixed memory, and a struct of four `&mut` would have to promise that it still holds the same four.
 pub fn decode(
     s: &[u8],
     l: Layout,

@@ -43,7 +43,7 @@ pub fn own(l: Layout, r: Layout, room: usize) -> Lengths {
     }
 }
 
-// One buffer at another length, by the number that a record has for it. None where the record does not say a change as it must: buffer 0 changes nothing and has no length, and there are eleven.
+// One buffer at another length, by the number that a record has for it. None where the record does not say a change as it must: buffer 0 changes nothing and has no length, and there are eleven. An enum of them would be a second table of the same eleven lines.
 pub fn changed(n: Lengths, buffer: u32, lent: usize) -> Option<Lengths> {
     let mut c = n;
     match buffer {

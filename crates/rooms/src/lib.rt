@@ -1,4 +1,5 @@
 // A found pair, and the three buffers that are lent for pairs: the pairs of one left point stored as far as there is room.
+// The three stand side by side, here and above, as C lends them: a struct of three `&mut` would have to promise at each call that it still holds the same three, a clause more in every contract.
 #![tactic(auto)]
 
 ghost use Rattle.std.specs.Prelude.{◌≡◌, List, ℕ, suc, ◌+◌, ◌-◌, ◌^◌, ◌≤◌, ◌<◌, min, length, take};

@@ -21,8 +21,8 @@ impl Nodes {
         ensures right { node_of result.right ≡ root_over (length trees.now.right.starts.now - 1) }
     {
         Self {
-            left: Cursor::root((trees.left.starts.len() - 1) as u32),
-            right: Cursor::root((trees.right.starts.len() - 1) as u32),
+            left: trees.left.root(),
+            right: trees.right.root(),
         }
     }
 

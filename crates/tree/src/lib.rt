@@ -12,7 +12,7 @@ use crate::down::down;
 use crate::order::Order;
 use crate::pivots::Pivots;
 use crate::starts::starts_ok;
-use cursor::{Cursor, Tree};
+use cursor::Tree;
 
 mod down;
 mod order;
@@ -90,6 +90,7 @@ fn coords_ok(tree: &Tree) -> bool
 pub fn check(k: usize, tree: &Tree) -> Result<(), Rule>
     ensures { told result ≡ refusal_of k (lent_tree tree.now) }
 {
+    // Each rule has its own error, so these tests are no one expression.
     if !axes_ok(k) {
         return Err(Rule::Axes);
     }
@@ -105,7 +106,7 @@ pub fn check(k: usize, tree: &Tree) -> Result<(), Rule>
     if !coords_ok(tree) {
         return Err(Rule::Coords);
     }
-    let root = Cursor::root((tree.starts.len() - 1) as u32);
+    let root = tree.root();
     if !down::<Pivots>(k, tree, root) {
         return Err(Rule::Pivots);
     }
