@@ -18,8 +18,7 @@ use Rattle.written.proofs.Answered.{rooms_agree}
 use Rattle.written.proofs.Laws.Lists.{perm_length}
 use Rattle.written.proofs.Laws.Tests.{fails, at_most, exceeds}
 use Rattle.written.proofs.Laws.Checked.{by_trees}
-use Rattle.join.specs.Answering.{Held}
-use Rattle.join.specs.Answering.{answer_of}
+use Rattle.join.specs.Answering.{Held, answer_of}
 use Rattle.join.specs.Told.{Result, PairsTold, CountsTold}
 use Rattle.join.specs.Onward.{pairs_walked, pairs_differ, pairs_walk, counts_walked, counts_walk}
 

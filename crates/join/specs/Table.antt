@@ -4,8 +4,7 @@ use Rattle.written.specs.Boxes.{Trees, Edge}
 use Rattle.written.specs.Answers.{PairRooms, NearRooms}
 use Rattle.written.specs.Calls.{PairsAnswer, CountsAnswer, NearestAnswer}
 use Rattle.written.proofs.Answered.{pairs_mean, counts_mean, nearest_means}
-use Rattle.join.specs.Answering.{Held}
-use Rattle.join.specs.Answering.{answer_of}
+use Rattle.join.specs.Answering.{Held, answer_of}
 use Rattle.join.specs.Told.{Result, PairsTold, CountsTold, NearestTold}
 
 pub pairs_table : (j : Trees) (edge : Edge) (radius : Float) (b : PairRooms) (r : Result PairRooms) → PairsTold j edge radius b r ↔ PairsAnswer j edge radius b (answer_of r.answer, r.rooms)

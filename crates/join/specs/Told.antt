@@ -1,4 +1,4 @@
--- What the public calls answer and leave in the rooms: document 01's answer, for each value of the code's struct. Assumes nothing.
+-- What the public calls answer and leave in the rooms: the answer of the table, for each value of the Result that the code answers. Assumes nothing.
 use Rattle.std.specs.Prelude.{◌≡◌, List, [], Bool, ℕ, Float}
 use Rattle.written.specs.Boxes.{Trees, Edge}
 use Rattle.written.specs.Answers.{PairRooms, pairs_call, counts_call, NearRooms, near_room_ok, nearest_call}
