@@ -1,4 +1,5 @@
 pub mod Growing
+pub mod Gathered
 pub mod Hits
 pub mod Keeping
 pub mod Parts

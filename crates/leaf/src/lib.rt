@@ -8,6 +8,7 @@ ghost use Rattle.metric.specs.Edges.{edge_of};
 use metric::Within;
 
 pub mod axes;
+pub mod gather;
 
 // 1 where the distance passes, else 0: a number, so that the loops have no branch.
 pub fn passes(distance: f64, within: Within) -> u64

@@ -1,14 +1,16 @@
-// How many pairs of two leaves pass: left tiles of at most 32 places, within each the right tiles, then left points, then right points (kiddo: leaf.rs).
+// How many pairs of two leaves pass (kiddo: leaf.rs).
 #![tactic(auto)]
 
 ghost use Rattle.std.specs.Prelude.{◌≡◌, ◌≤◌, length};
 ghost use Rattle.metric.specs.Edges.{edge_of};
-ghost use Rattle.leaf.specs.Lent.{LeafPairIn, TilePairIn};
+ghost use Rattle.leaf.specs.Lent.{LeafPairIn};
 ghost use Rattle.leaf.specs.Sums.{Fresh, PointTileIn, reached, passing as passing_of, hits};
-ghost use Rattle.leaf.specs.Kept.{keeps_in, of_point, of_tile_pair, of_tile_leaf, of_leaves, Countable};
+ghost use Rattle.leaf.specs.Kept.{keeps_in, of_point, of_leaves};
+ghost use Rattle.leafcounts.specs.Counting.{CanCount, Counted, counting_laws};
 
-use cursor::{Places, Trees, tile_end};
+use cursor::{Places, Trees};
 use leaf::axes::first_axes;
+use leaf::gather::{Gather, leaves};
 use leaf::passes;
 use metric::Within;
 
@@ -41,38 +43,29 @@ fn point_count(trees: &Trees, within: Within, p: usize, right: Places, sums: &mu
     )
 }
 
-// A left tile against a right tile.
-fn tile_counts(trees: &Trees, within: Within, left: Places, right: Places) -> u64
-    requires tile_pair { TilePairIn trees.now left right }
-    requires countable { Countable 0 (of_tile_pair (keeps_in trees.now within) left.from left.to right.from right.to) }
-    ensures { result ≡ length (of_tile_pair (keeps_in trees.now within) left.from left.to right.from right.to) }
-{
-    let mut sums = [0.0; 32];
-    let mut n = 0;
-    for p in left.from..left.to {
-        n += point_count(trees, within, p, right, &mut sums);
-    }
-    n
+// The pairs so far, as a number.
+#[derive(Drop)]
+struct Count {
+    pairs: u64,
 }
 
-// A left tile against the right tiles.
-fn tile_leaf_counts(trees: &Trees, within: Within, left: Places, right: Places) -> u64
-    requires leaf_pair { LeafPairIn trees.now left right }
-    requires countable { Countable 0 (of_tile_leaf (keeps_in trees.now within) left.from left.to right.from right.to) }
-    ensures { result ≡ length (of_tile_leaf (keeps_in trees.now within) left.from left.to right.from right.to) }
-{
-    let mut n = 0;
-    let mut from = right.from;
-    // No index is counted: a tile begins where the one before it ended, and the last may be a short one.
-    while from < right.to {
-        let right_tile = Places {
-            from,
-            to: tile_end(from, right.to),
-        };
-        n += tile_counts(trees, within, left, right_tile);
-        from = right_tile.to;
+impl Gather for Count {
+    ghost takes = { CanCount };
+
+    ghost after = { Counted };
+
+    ghost laws = { counting_laws };
+
+    fn point(
+        &mut self,
+        trees: &Trees,
+        within: Within,
+        p: usize,
+        right: Places,
+        sums: &mut [f64; 32],
+    ) {
+        self.pairs += point_count(trees, within, p, right, sums);
     }
-    n
 }
 
 // Two leaves: the places of one against the places of the other.
@@ -80,16 +73,7 @@ pub fn leaf_counts(trees: &Trees, within: Within, left: Places, right: Places) -
     requires { LeafPairIn trees.now left right }
     ensures { result ≡ length (of_leaves (keeps_in trees.now within) left.from left.to right.from right.to) }
 {
-    let mut n = 0;
-    let mut from = left.from;
-    // As the right tiles, each from the end of the one before it.
-    while from < left.to {
-        let left_tile = Places {
-            from,
-            to: tile_end(from, left.to),
-        };
-        n += tile_leaf_counts(trees, within, left_tile, right);
-        from = left_tile.to;
-    }
-    n
+    let mut count = Count { pairs: 0 };
+    leaves(trees, within, left, right, &mut count);
+    count.pairs
 }
