@@ -45,6 +45,19 @@ impl<'a> Trees<'a> {
             Side::Right => self.right,
         }
     }
+
+    // The stems of the chosen side from a node's stem on: its pivot stands first.
+    pub fn stems_from(&self, side: Side, at: StemIdx) -> &'a [f64]
+        requires { at.0 < length (on_side (side_of side) self.now.left.stems.now self.now.right.stems.now) }
+        ensures value { result.now ≡ drop at.0 (on_side (side_of side) self.now.left.stems.now self.now.right.stems.now) }
+        ensures nonzero { 0 < length result.now }
+    {
+        let i = at.0 as usize;
+        match side {
+            Side::Left => &self.left.stems[i..],
+            Side::Right => &self.right.stems[i..],
+        }
+    }
 }
 
 impl<'a> Tree<'a> {

@@ -20,7 +20,7 @@ pub fn descend(trees: &Trees, side: Side, at: Nodes) -> Descent
     let node = at.on(side);
     let halves = node.split();
     let axis = node.axis(trees.k);
-    let pivot = trees.on(side).pivot(node.stem);
+    let pivot = trees.stems_from(side, node.stem)[0];
     let left = at.left;
     let right = at.right;
     match side {
