@@ -1,4 +1,4 @@
-// What the loops over two leaves share: the squared distances of one point to the points of a tile, axis by axis, and the test of one (kiddo: leaf.rs). The loops stand in crates of their own: leafpairs, leafcounts, leafnearest.
+// What the loops over two leaves share: the squared distances of one point to the points of a tile, axis by axis, and the test of one (kiddo: leaf.rs). The loops over tiles that gather pairs are in `gather`; what they gather in, and the loop for nearest points, are crates of their own: leafpairs, leafcounts, leafnearest.
 #![tactic(auto)]
 
 ghost use Rattle.std.specs.Prelude.{◌≡◌, cond};

@@ -21,8 +21,8 @@ struct Pairs<'a> {
     lout: &'a mut [u32],
     rout: &'a mut [u32],
     dout: &'a mut [f64],
-    dists: [f64; 32],
-    places: [u32; 32],
+    dists: &'a mut [f64; 32],
+    places: &'a mut [u32; 32],
 }
 
 impl<'a> Gather for Pairs<'a> {
@@ -50,8 +50,8 @@ impl<'a> Gather for Pairs<'a> {
             &mut *self.rout,
             &mut *self.dout,
             sums,
-            &mut self.dists,
-            &mut self.places,
+            &mut *self.dists,
+            &mut *self.places,
         );
     }
 }
@@ -72,13 +72,15 @@ pub fn leaf_pairs(
     requires countable { Countable found (of_leaves (keeps_in trees.now within) left.from left.to right.from right.to) }
     ensures { filling result lout.new rout.new dout.new ≡ puts (filling found lout.old rout.old dout.old) (of_leaves (keeps_in trees.now within) left.from left.to right.from right.to) }
 {
+    let mut dists = [0.0; 32];
+    let mut places = [0; 32];
     let mut pairs = Pairs {
         found,
         lout,
         rout,
         dout,
-        dists: [0.0; 32],
-        places: [0; 32],
+        dists: &mut dists,
+        places: &mut places,
     };
     leaves(trees, within, left, right, &mut pairs);
     pairs.found
