@@ -9,10 +9,12 @@ ghost use Rattle.rooms.specs.Rooms.{filling, puts, SameRooms};
 
 mod point;
 
-use crate::point::point_tile;
+use crate::point::{last_axis, passing_places};
 use cursor::{Places, Trees};
+use leaf::axes::first_axes;
 use leaf::gather::{Gather, leaves};
 use metric::Within;
+use rooms::{emit, emit_all};
 
 // The pairs so far: how many, the three buffers, and two rows to work in, which are made once for two leaves.
 #[derive(Drop)]
@@ -32,6 +34,7 @@ impl<'a> Gather for Pairs<'a> {
 
     ghost laws = { storing_laws };
 
+    // Where none passes nothing is stored, and where all pass there are no places to look for.
     fn point(
         &mut self,
         trees: &Trees,
@@ -40,19 +43,33 @@ impl<'a> Gather for Pairs<'a> {
         right: Places,
         sums: &mut [f64; 32],
     ) {
-        self.found = point_tile(
-            trees,
+        let dists = &mut *self.dists;
+        first_axes(&mut *sums, trees.k, &trees.left, p, &trees.right, right);
+        let last = trees.k - 1;
+        let at = last * trees.left.items.len() + p;
+        let m = last_axis(
+            &*sums,
+            trees.left.coords[at],
+            trees.right.tile(last, right),
             within,
-            p,
-            right,
-            self.found,
-            &mut *self.lout,
-            &mut *self.rout,
-            &mut *self.dout,
-            sums,
-            &mut *self.dists,
-            &mut *self.places,
-        );
+            &mut *dists,
+        ) as usize;
+        if m == 0 {
+            return;
+        }
+        let found = self.found;
+        let lout = &mut *self.lout;
+        let rout = &mut *self.rout;
+        let dout = &mut *self.dout;
+        let item = trees.left.items[p];
+        let part = &trees.right.items[right.from..right.to];
+        if m == part.len() {
+            self.found = emit_all(&*dists, item, part, found, lout, rout, dout);
+            return;
+        }
+        let places = &mut *self.places;
+        passing_places(&*dists, part.len(), within, &mut *places);
+        self.found = emit(&*dists, &*places, m, item, part, found, lout, rout, dout);
     }
 }
 
