@@ -45,9 +45,11 @@ pub trait Visitor {
     // how many visits are left at most
     ghost left: { Self → TreePair → ℕ };
 
-    ghost FAR_FIRST: { Bool };
+    // whether the far half is taken first
+    ghost far: { Bool };
 
-    const FAR_FIRST: bool;
+    fn far_first(&self) -> bool
+        ensures { result ≡ far };
 
     // Which side is split, or none where the visit has ended.
     fn visit(&mut self, trees: &Trees, at: Nodes, boxes: &Boxes) -> Option<Side>
@@ -60,7 +62,7 @@ pub trait Visitor {
         ensures setting { setting self.new ≡ setting self.old }
         ensures fewer { left self.new (lent_trees trees.now) < left self.old (lent_trees trees.now) };
 
-    ghost in_order: { (s : Setting) (j : TreePair) → (walk s j).order ≡ order_by FAR_FIRST };
+    ghost in_order: { (s : Setting) (j : TreePair) → (walk s j).order ≡ order_by far };
 }
 
 // Each turn visits the node pair at hand, or takes one waiting entry; when nothing waits, the walk is over.
@@ -86,7 +88,7 @@ pub fn walk<V: Visitor>(trees: &Trees, visitor: &mut V)
                         next = Some(down.near);
                     } else {
                         let i = slot(side, down.axis);
-                        let halves = in_order(V::FAR_FIRST, down);
+                        let halves = in_order(visitor.far_first(), down);
                         stack.push(Waiting::Half {
                             side,
                             axis: down.axis,
@@ -95,7 +97,7 @@ pub fn walk<V: Visitor>(trees: &Trees, visitor: &mut V)
                             pivot: down.pivot,
                             at: halves.second,
                         });
-                        cut_first(V::FAR_FIRST, &mut boxes, i, down.pivot);
+                        cut_first(visitor.far_first(), &mut boxes, i, down.pivot);
                         next = Some(halves.first);
                     }
                 }
@@ -114,7 +116,7 @@ pub fn walk<V: Visitor>(trees: &Trees, visitor: &mut V)
                         at: second,
                     } => {
                         let i = slot(side, axis);
-                        cut_second(V::FAR_FIRST, &mut boxes, i, min, max, pivot);
+                        cut_second(visitor.far_first(), &mut boxes, i, min, max, pivot);
                         stack.push(Waiting::Restore {
                             side,
                             axis,

@@ -1,159 +1,28 @@
--- `walk` meets its contract: the loop's invariant is `Going`, with both trees accepted and the rooms as long as they were. Assumes nothing.
-use mathlib.Core.Path.{◌≡◌, refl, sym, ap, ap₂, ◌∙◌}
-use mathlib.Core.List.{List}
-use Prim.Native.Nat.{ℕ, ◌+◌, ◌-◌, ◌<◌}
-use lib.ListN.{length, set}
-use native.Mathlib.Omega.{arith}
-use borrow.Author.Rules.{rules}
-use Rattle.std.specs.Prelude.{Some}
-use Rattle.written.specs.Check.{rule₁, rule₂}
-use Rattle.written.specs.NodePairs.{left_side, right_side}
-use Rattle.written.specs.Totals.{Totals}
-use Rattle.metric.specs.Flat.{boxes_of}
-use Rattle.steps.proofs.Waits.{view, taken, pop_takes}
-use Rattle.steps.proofs.Reading.{keeps, ordered_both, leaves_read}
-use Rattle.steps.specs.declared.waiting.Waiting.{Waiting}
-use Rattle.steps.specs.declared.waiting.Waiting.TheVariants.{Restore}
-use Rattle.steps.proofs.Going.{start, at_some, at_none, at_any, none_left, restacked, room}
-use Rattle.steps.proofs.Halves.{put_lowered}
-use Rattle.steps.proofs.Visiting.{good_here, splits_here, axis_small, slot_small, turn_to_near, turn_to_both}
-use Rattle.steps.proofs.Taking.{turn_to_half, turn_to_back, turn_over, half_axis, half_slot, side_axis, side_slot}
-use Rattle.radiusvisit.specs.Work.{Work}
-use Rattle.traversal.proofs.Through.{tally_none, tally_examined}
-use Rattle.traversal.proofs.Lengths.{alike_rooms}
-use Rattle.traversal.proofs.Radius.{begins}
-use Rattle.traversal.proofs.Bounded.{few_examined, unvisited}
-use Rattle.traversal.proofs.Turning.{ends_with, splits_with, turn_finish}
+-- `walk` meets its contract. Assumes nothing.
+use mathlib.Core.Path.{sym, ap, ◌∙◌}
+use Rattle.cursor.specs.Lent.{lent_trees}
+use Rattle.metric.specs.Edges.{edge_of}
+use Rattle.steps.specs.Lent.{rooms_of}
+use Rattle.radiusvisit.specs.Work.{work_of}
+use Rattle.traversal.specs.Radius.{begins}
+use Rattle.traversal.specs.Through.{tally_none}
+use Rattle.traversal.specs.Setting.{Setting}
 use Rattle.traversal.proofs.walk.Goals as goal
 
-pub roots-requires : goal.roots-requires
-roots-requires c =
-    let l = keeps _ c.requires.accepts left_side rule₂ in
-    let r = keeps _ c.requires.accepts right_side rule₂ in
-    record { left = (l.0, l.1); right = (r.0, r.1) }
+pub walk-requires-clause-whole : goal.walk-requires-clause-whole
+walk-requires-clause-whole c =
+    let a = c.args in
+    let b = rooms_of a.lout.now a.rout.now a.dout.now in
+    (b, begins (lent_trees a.trees.now) (edge_of a.within.edge) a.within.radius a.counting {b = b} (tally_none c.none.result b c.none.ensures))
 
-pub loop-next-init : goal.loop-next-init
-loop-next-init c =
-    let empty = c.empty-stack.ensures in
-    (c.requires.accepts, c.requires.same_rooms, record { same_lefts = refl; same_rights = refl; same_distances = refl }, restacked refl empty.0 (start _ c.requires.accepts _ _ empty.1 c.roots.ensures.left c.roots.ensures.right c.everywhere-boxes.ensures (begins _ _ _ _ (tally_none _ _ c.none-tally.ensures))))
-
--- ---- a visit of the node pair at hand
-
-pub visited-tally-requires : goal.visited-tally-requires
-visited-tally-requires c =
-    let i = c.loop-next.invariant in
-    omega (arith, unvisited _ _ _ _ _ i.0 (at_some c.in-Some.is i.3))
-
-pub choose-requires : goal.choose-requires
-choose-requires c =
-    let i = c.loop-next.invariant in
-    ((keeps _ i.0 left_side rule₁).1, ordered_both _ i.0 _ (good_here i.0 (at_some c.in-Some.is i.3)).node)
-
-pub finish-tally-requires : goal.finish-tally-requires
-finish-tally-requires c =
-    let i = c.loop-next.invariant in
-    let g = at_some c.in-Some.is i.3 in
-    record { leaves = leaves_read _ i.0 _ (good_here i.0 g).node; few = few_examined _ _ _ _ _ i.0 g _ _ refl refl c.visited-tally.ensures; same_rooms = alike_rooms i.1 i.2; may_end = (ends_with _ _ _ _ _ i.0 g c.in-End.is c.choose.ensures).allowed }
-
-pub loop-next-smaller-in-End : goal.loop-next-smaller-in-End
-loop-next-smaller-in-End c =
-    let i = c.loop-next.invariant in
-    let g = at_some c.in-Some.is i.3 in
-    simp c.in-Some.is (omega (arith, unvisited _ _ _ _ _ i.0 g, ap (λ (w : Work). w.totals.visits) c.finish-tally.ensures, ap (λ (t : Totals). t.visits) c.visited-tally.ensures.1))
-
-pub loop-next-preserved-in-End : goal.loop-next-preserved-in-End
-loop-next-preserved-in-End c =
-    let i = c.loop-next.invariant in
-    let g = at_some c.in-Some.is i.3 in
-    let r = turn_finish _ _ _ _ _ i.0 g _ c.in-End.is c.choose.ensures (tally_examined _ _ _ _ _ c.visited-tally.ensures) c.finish-tally.ensures i.2 in
-    (i.0, i.1, r.0, none_left r.1)
-
-pub descend-down-requires : goal.descend-down-requires
-descend-down-requires c =
-    let i = c.loop-next.invariant in
-    let g = at_some c.in-Some.is i.3 in
-    splits_here i.0 g (splits_with _ _ _ _ _ i.0 g c.in-Split.is c.choose.ensures)
-
-pub slot-i-requires : goal.slot-i-requires
-slot-i-requires c =
-    let i = c.loop-next.invariant in
-    let g = at_some c.in-Some.is i.3 in
-    axis_small i.0 g _ (splits_with _ _ _ _ _ i.0 g c.in-Split.is c.choose.ensures) _ c.descend-down.ensures
-
-pub bounds-boxes-i : goal.bounds-boxes-i
-bounds-boxes-i c =
-    let i = c.loop-next.invariant in
-    let g = at_some c.in-Some.is i.3 in
-    slot_small i.0 g _ (splits_with _ _ _ _ _ i.0 g c.in-Split.is c.choose.ensures) _ c.descend-down.ensures c.slot-i.ensures
-
-pub bounds-boxes-i-then-not-is_top : goal.bounds-boxes-i-then-not-is_top
-bounds-boxes-i-then-not-is_top c =
-    let i = c.loop-next.invariant in
-    let g = at_some c.in-Some.is i.3 in
-    slot_small i.0 g _ (splits_with _ _ _ _ _ i.0 g c.in-Split.is c.choose.ensures) _ c.descend-down.ensures c.slot-i.ensures
-
-pub push-requires : goal.push-requires
-push-requires c =
-    let i = c.loop-next.invariant in
-    (omega (arith, room i.0 i.3), i.3.size)
-
-pub bounds-boxes-i-then-not-is_top-2 : goal.bounds-boxes-i-then-not-is_top-2
-bounds-boxes-i-then-not-is_top-2 c =
-    let i = c.loop-next.invariant in
-    let g = at_some c.in-Some.is i.3 in
-    slot_small i.0 g _ (splits_with _ _ _ _ _ i.0 g c.in-Split.is c.choose.ensures) _ c.descend-down.ensures c.slot-i.ensures
-
-pub loop-next-smaller-then-not-is_top : goal.loop-next-smaller-then-not-is_top
-loop-next-smaller-then-not-is_top c =
-    let i = c.loop-next.invariant in
-    simp c.in-Some.is (omega (arith, unvisited _ _ _ _ _ i.0 (at_some c.in-Some.is i.3), ap (λ (t : Totals). t.visits) c.visited-tally.ensures.1, c.push.ensures.len))
-
-pub loop-next-preserved-then-not-is_top : goal.loop-next-preserved-then-not-is_top
-loop-next-preserved-then-not-is_top c =
-    let i = c.loop-next.invariant in
-    let g = at_some c.in-Some.is i.3 in
-    (i.0, i.1, i.2, restacked c.push.ensures.entries c.push.ensures.len (turn_to_both i.0 g _ (splits_with _ _ _ _ _ i.0 g c.in-Split.is c.choose.ensures) _ c.descend-down.ensures (tally_examined _ _ _ _ _ c.visited-tally.ensures) refl c.slot-i.ensures (put_lowered (boxes_of c.loop-next.boxes.min c.loop-next.boxes.max) c.slot-i.result _ c.lowered.ensures) (sym c.is_top.ensures ∙ c.if-not-is_top.true)))
-
-pub loop-next-smaller-else-not-is_top : goal.loop-next-smaller-else-not-is_top
-loop-next-smaller-else-not-is_top c =
-    let i = c.loop-next.invariant in
-    simp c.in-Some.is (omega (arith, unvisited _ _ _ _ _ i.0 (at_some c.in-Some.is i.3), ap (λ (t : Totals). t.visits) c.visited-tally.ensures.1))
-
-pub loop-next-preserved-else-not-is_top : goal.loop-next-preserved-else-not-is_top
-loop-next-preserved-else-not-is_top c =
-    let i = c.loop-next.invariant in
-    let g = at_some c.in-Some.is i.3 in
-    (i.0, i.1, i.2, turn_to_near i.0 g _ (splits_with _ _ _ _ _ i.0 g c.in-Split.is c.choose.ensures) _ c.descend-down.ensures (tally_examined _ _ _ _ _ c.visited-tally.ensures) refl (sym c.is_top.ensures ∙ c.if-not-is_top.false))
-
--- ---- an entry is taken
-
-pub pop-requires : goal.pop-requires
-pop-requires c =
-    let i = c.loop-next.invariant in
-    (omega (arith, room i.0 i.3), i.3.size)
-
-pub returns-in_default : goal.returns-in_default
-returns-in_default c =
-    let i = c.loop-next.invariant in
-    turn_over i.0 (at_none c.in-None.is i.3) (pop_takes _ _ _ c.pop.ensures.value ∙ c.in_default.is)
-
-pub push-requires-in-Half : goal.push-requires-in-Half
-push-requires-in-Half c =
-    let i = c.loop-next.invariant in
-    (omega (arith, room i.0 i.3, c.pop.ensures.len), ap length c.pop.ensures.entries ∙ i.3.size)
-
-pub loop-next-preserved-in-Half : goal.loop-next-preserved-in-Half
-loop-next-preserved-in-Half c =
-    let i = c.loop-next.invariant in
-    let g = at_none c.in-None.is i.3 in
-    let e = pop_takes _ _ _ c.pop.ensures.value ∙ c.in-Some-pop.is ∙ ap Some c.in-Half.is in
-    let h = c.in-Half in
-    let r = c.push-in-Half.ensures in
-    (i.0, i.1, i.2, restacked (r.entries ∙ ap₂ (λ (s : List Waiting) (n : ℕ). set s n (Restore h.side h.axis h.min h.max)) c.pop.ensures.entries c.pop.ensures.len) (r.len ∙ ap (λ (n : ℕ). n + 1) c.pop.ensures.len) (turn_to_half i.0 g _ _ _ _ _ _ e c.slot-i-in-Half.ensures c.raised.ensures refl refl))
-
-pub loop-next-preserved : goal.loop-next-preserved
-loop-next-preserved c =
-    let i = c.loop-next.invariant in
-    let g = at_none c.in-None.is i.3 in
-    let e = pop_takes _ _ _ c.pop.ensures.value ∙ c.in-Some-pop.is ∙ ap Some c.in-Restore.is in
-    (i.0, i.1, i.2, restacked c.pop.ensures.entries c.pop.ensures.len (at_any c.in-None.is (turn_to_back i.0 g _ _ _ _ e c.slot-i-in-Restore.ensures refl)))
+-- each room ends as its visitor leaves it, since no visit changes which room that is
+pub returns : goal.returns
+returns c =
+    let a = c.args in
+    let b = rooms_of a.lout.now a.rout.now a.dout.now in
+    let s = sym c.walk.ensures.setting in
+    let v = c.walk.new.visitor in
+    let l = c.lout-1.given.1.1 (ap (λ (x : Setting). x.lefts) s) in
+    let r = c.rout-1.given.1.1 (ap (λ (x : Setting). x.rights) s) in
+    let d = c.dout-1.given.1.1 (ap (λ (x : Setting). x.distances) s) in
+    (λ i. work_of v.tally (l i) (r i) (d i)) ∙ c.walk.ensures.done ∙ begins (lent_trees a.trees.now) (edge_of a.within.edge) a.within.radius a.counting {b = b} (tally_none c.none.result b c.none.ensures)

@@ -89,7 +89,7 @@ loop-next-preserved-else-is_top g c =
     let d = c.descend-down.result in
     let o = g.met.V.Visitor.in_order (g.V.Visitor.setting c.args.visitor.now) (lent_trees c.args.trees.now) in
     let v = came_to _ g.V.Visitor.walk _ _ _ i.2 c.in-Some-visit.is c.visit.ensures.visited in
-    (i.0, c.visit.ensures.ready, c.visit.ensures.setting ∙ i.2, i.3, restacked c.push.ensures.entries c.push.ensures.len (turn_halves i.0 _ o (at_some c.in-Some.is i.4) v.0 c.descend-down.ensures v.1 c.slot-i.ensures (c.cut_first.ensures ∙ ap (λ (f : Bool). first_boxes (order_by f) c.slot-i.result d.pivot b) c.FAR_FIRST-else-is_top.ensures) (c.in_order-halves.ensures.first ∙ ap (λ (f : Bool). first (order_by f) d.near d.far) c.FAR_FIRST.ensures) (c.in_order-halves.ensures.second ∙ ap (λ (f : Bool). second (order_by f) d.near d.far) c.FAR_FIRST.ensures) (sym c.is_top.ensures ∙ c.if-is_top.false)))
+    (i.0, c.visit.ensures.ready, c.visit.ensures.setting ∙ i.2, i.3, restacked c.push.ensures.entries c.push.ensures.len (turn_halves i.0 _ o (at_some c.in-Some.is i.4) v.0 c.descend-down.ensures v.1 c.slot-i.ensures (c.cut_first.ensures ∙ ap (λ (f : Bool). first_boxes (order_by f) c.slot-i.result d.pivot b) c.far_first-else-is_top.ensures) (c.in_order-halves.ensures.first ∙ ap (λ (f : Bool). first (order_by f) d.near d.far) c.far_first.ensures) (c.in_order-halves.ensures.second ∙ ap (λ (f : Bool). second (order_by f) d.near d.far) c.far_first.ensures) (sym c.is_top.ensures ∙ c.if-is_top.false)))
 
 -- ---- an entry is taken
 
@@ -116,7 +116,7 @@ loop-next-preserved-in-Half g c =
     let o = g.met.V.Visitor.in_order (g.V.Visitor.setting c.args.visitor.now) (lent_trees c.args.trees.now) in
     let h = c.in-Half in
     let r = c.push-in-Half.ensures in
-    (i.0, i.1, i.2, i.3, restacked (r.entries ∙ ap₂ (λ (s : List Waiting) (n : ℕ). set s n (Restore h.side h.axis h.min h.max)) c.pop.ensures.entries c.pop.ensures.len) (r.len ∙ ap (λ (n : ℕ). n + 1) c.pop.ensures.len) (turn_second i.0 _ o (at_none c.in-None.is i.4) e c.slot-i-in-Half.ensures (c.cut_second.ensures ∙ ap (λ (f : Bool). waiting_boxes (order_by f) c.slot-i-in-Half.result h.min h.max h.pivot (boxes_of l.boxes.min l.boxes.max)) c.FAR_FIRST-in-Half.ensures)))
+    (i.0, i.1, i.2, i.3, restacked (r.entries ∙ ap₂ (λ (s : List Waiting) (n : ℕ). set s n (Restore h.side h.axis h.min h.max)) c.pop.ensures.entries c.pop.ensures.len) (r.len ∙ ap (λ (n : ℕ). n + 1) c.pop.ensures.len) (turn_second i.0 _ o (at_none c.in-None.is i.4) e c.slot-i-in-Half.ensures (c.cut_second.ensures ∙ ap (λ (f : Bool). waiting_boxes (order_by f) c.slot-i-in-Half.result h.min h.max h.pivot (boxes_of l.boxes.min l.boxes.max)) c.far_first-in-Half.ensures)))
 
 pub loop-next-preserved : goal.loop-next-preserved
 loop-next-preserved g c =
