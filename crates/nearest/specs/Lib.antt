@@ -1,3 +1,5 @@
 pub mod Lent
 pub mod Walked
 pub mod Executed
+pub mod Setting
+pub mod Carrying

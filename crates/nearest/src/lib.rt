@@ -1,107 +1,104 @@
 // All-nearest over two accepted trees: for each left place the nearest right item, in left place order (kiddo: nearest.rs).
 #![tactic(auto)]
 
-ghost use Rattle.std.specs.Prelude.{◌≡◌, true, false, length, replicate};
+ghost use Rattle.std.specs.Prelude.{◌≡◌, ◌-◌, ◌≤◌, true, false, length, replicate, refl};
 ghost use Rattle.written.specs.Nearest.{unset, no_points};
+ghost use Rattle.written.specs.Totals.{near_totals};
 ghost use Rattle.written.specs.Answers.{Accepts, near_rooms_agree, near_room_ok};
+ghost use Rattle.metric.specs.Flat.{boxes_of};
 ghost use Rattle.cursor.specs.Lent.{lent_trees};
 ghost use Rattle.leafnearest.specs.Answers.{answers, Answering};
-ghost use Rattle.nearvisit.specs.Held.{held_of};
+ghost use Rattle.steps.specs.Standing.{pair_at, Ordered};
+ghost use Rattle.nearvisit.specs.Lent.{HeldUnder};
+ghost use Rattle.nearvisit.specs.Moves.{move_of};
+ghost use Rattle.nearvisit.specs.Held.{Held, held_of};
 ghost use Rattle.nearest.specs.Lent.{near_rooms_of};
 ghost use Rattle.nearest.specs.Walked.{walked};
+ghost use Rattle.nearest.specs.Setting.{Setting};
+ghost use Rattle.nearest.specs.Carrying.{nearest_walk};
 ghost use Rattle.nearest.specs.Executed.{outcome_of, executed};
 
-use cursor::Trees;
+use cursor::{Side, Trees};
 use held::beginning::clear;
 use metric::Boxes;
 use nearvisit::finish::finish;
-use nearvisit::moves::choose;
+use nearvisit::moves::{Fate, choose};
 use steps::Tally;
-use steps::descent::descend;
-use steps::nodes::{Nodes, slot};
+use steps::nodes::Nodes;
 use steps::splitting::Move;
-use steps::waiting::{Stack, Waiting};
+use walking::Visitor;
 
-// The radius walk's loop, but the far half is at hand first and the near half waits; the answers held decide what is ruled out.
+// What is counted so far, and the answers held.
+#[derive(Drop)]
+struct Answers<'a> {
+    tally: Tally,
+    items: &'a mut [u32],
+    dists: &'a mut [f64],
+}
+
+impl Answers<'_> {
+    // By a shared borrow of the whole, since one of a lent field alone would leave its value unknown.
+    fn chosen(&self, trees: &Trees, at: Nodes, boxes: &Boxes) -> Move<Fate>
+        requires { (trees.now.k ≤ 4) × Ordered at × HeldUnder trees.now.left.starts.now self.now.dists.now at }
+        ensures { result ≡ move_of (lent_trees trees.now) self.now.dists.now (pair_at at (boxes_of boxes.now.min boxes.now.max)) }
+    {
+        choose(trees, at, boxes, &*self.dists)
+    }
+}
+
+// The far half is taken first, and the answers held decide what is ruled out.
+impl Visitor for Answers<'_> {
+    ghost Done = { Held };
+
+    ghost Setting = { Setting };
+
+    ghost done = { λ v. held_of v.tally v.items.now v.dists.now };
+
+    ghost setting = { λ v. record { items = v.items.ghost_name; distances = v.dists.ghost_name } };
+
+    ghost walk = { λ s j. nearest_walk j };
+
+    ghost ready = { λ v j. Answering 0 (length j.left.items) v.items.now v.dists.now };
+
+    ghost whole = { λ s j w. w ≡ walked j };
+
+    ghost left = { λ v j. (near_totals j).visits - v.tally.visits };
+
+    ghost far = { true };
+
+    ghost in_order = { λ s j. refl };
+
+    fn far_first(&self) -> bool {
+        true
+    }
+
+    fn visit(&mut self, trees: &Trees, at: Nodes, boxes: &Boxes) -> Option<Side> {
+        self.tally = self.tally.visited();
+        match self.chosen(trees, at, boxes) {
+            Move::End(fate) => {
+                self.tally = finish(
+                    fate, trees, at, boxes, self.tally, &mut *self.items, &mut *self.dists,
+                );
+                None
+            }
+            Move::Split(side) => Some(side),
+        }
+    }
+}
+
 fn walk(trees: &Trees, items: &mut [u32], dists: &mut [f64]) -> Tally
     requires accepts { Accepts (lent_trees trees.now) }
     requires points { no_points (lent_trees trees.now) ≡ false }
     requires answering { Answering 0 (length trees.now.left.items.now) items.old dists.old × (answers items.old dists.old ≡ replicate (length trees.now.left.items.now) unset) }
     ensures { held_of result items.new dists.new ≡ walked (lent_trees trees.now) }
 {
-    let mut next = Some(Nodes::roots(trees));
-    let mut boxes = Boxes::everywhere();
-    let mut tally = Tally::none();
-    let mut stack = Stack::empty();
-    loop {
-        match next {
-            Some(at) => {
-                tally = tally.visited();
-                match choose(trees, at, &boxes, &*dists) {
-                    Move::End(fate) => {
-                        tally = finish(fate, trees, at, &boxes, tally, &mut *items, &mut *dists);
-                        next = None;
-                    }
-                    Move::Split(side) => {
-                        let down = descend(trees, side, at);
-                        if metric::is_top(down.pivot) {
-                            next = Some(down.near);
-                        } else {
-                            let i = slot(side, down.axis);
-                            let min = boxes.min[i];
-                            let max = boxes.max[i];
-                            stack.push(Waiting::Half {
-                                side,
-                                axis: down.axis,
-                                min,
-                                max,
-                                pivot: down.pivot,
-                                at: down.near,
-                            });
-                            boxes.min[i] = metric::raised(min, down.pivot);
-                            next = Some(down.far);
-                        }
-                    }
-                }
-            }
-            None => {
-                let Some(waiting) = stack.pop() else {
-                    return tally;
-                };
-                match waiting {
-                    Waiting::Half {
-                        side,
-                        axis,
-                        min,
-                        max,
-                        pivot,
-                        at: near,
-                    } => {
-                        let i = slot(side, axis);
-                        boxes.min[i] = min;
-                        boxes.max[i] = metric::lowered(max, pivot);
-                        stack.push(Waiting::Restore {
-                            side,
-                            axis,
-                            min,
-                            max,
-                        });
-                        next = Some(near);
-                    }
-                    Waiting::Restore {
-                        side,
-                        axis,
-                        min,
-                        max,
-                    } => {
-                        let i = slot(side, axis);
-                        boxes.min[i] = min;
-                        boxes.max[i] = max;
-                    }
-                }
-            }
-        }
-    }
+    let mut held = Answers {
+        tally: Tally::none(),
+        items: &mut *items,
+        dists: &mut *dists,
+    };
+    walking::walk(trees, &mut held);
+    held.tally
 }
 
 // If a tree holds no points, nothing is written. Else an answer for each left place; beyond them the buffers stay untouched.
