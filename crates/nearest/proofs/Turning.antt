@@ -1,7 +1,7 @@
 -- What the code chose to do with the node pair at hand, what a visit that ends comes to, and that every number fits. Assumes nothing.
 use mathlib.Core.Path.{◌≡◌, refl, sym, ap, ◌∙◌}
 use mathlib.Core.List.{List, []}
-use mathlib.Core.Bool.{Bool, true, false, ◌&&◌}
+use mathlib.Core.Bool.{Bool, ◌&&◌}
 use Prim.Native.Nat.{ℕ, ◌+◌, ◌^◌, ◌≤◌, ◌<◌}
 use native.Mathlib.Omega.{arith}
 use lib.ListN.{replicate}
@@ -20,7 +20,6 @@ use Rattle.metric.specs.Flat.{boxes_of}
 use Rattle.leafnearest.specs.Answers.{answers, Answering}
 use Rattle.steps.specs.declared.nodes.Nodes.{Nodes}
 use Rattle.steps.specs.declared.tally.Tally.{Tally}
-use Rattle.steps.specs.declared.waiting.Waiting.{Waiting}
 use Rattle.steps.specs.Standing.{pair_at}
 use Rattle.steps.specs.Counted.{totals_held, visited}
 use Rattle.steps.specs.Ending.{Leaves}

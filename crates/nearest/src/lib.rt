@@ -64,10 +64,6 @@ impl Visitor for Answers<'_> {
 
     ghost left = { λ v j. (near_totals j).visits - v.tally.visits };
 
-    ghost far = { true };
-
-    ghost in_order = { λ s j. refl };
-
     fn far_first(&self) -> bool {
         true
     }
@@ -77,7 +73,13 @@ impl Visitor for Answers<'_> {
         match self.chosen(trees, at, boxes) {
             Move::End(fate) => {
                 self.tally = finish(
-                    fate, trees, at, boxes, self.tally, &mut *self.items, &mut *self.dists,
+                    fate,
+                    trees,
+                    at,
+                    boxes,
+                    self.tally,
+                    &mut *self.items,
+                    &mut *self.dists,
                 );
                 None
             }

@@ -55,10 +55,6 @@ impl Visitor for Pairs<'_> {
 
     ghost left = { λ v j. (walk_totals j (edge_of v.within.edge) v.within.radius v.counting).visits - v.tally.visits };
 
-    ghost far = { false };
-
-    ghost in_order = { λ s j. refl };
-
     fn far_first(&self) -> bool {
         false
     }
@@ -68,8 +64,15 @@ impl Visitor for Pairs<'_> {
         match choose(trees.k, self.within, self.counting, at, boxes) {
             Move::End(fate) => {
                 self.tally = finish(
-                    fate, trees, self.within, self.counting, at, self.tally, &mut *self.lout,
-                    &mut *self.rout, &mut *self.dout,
+                    fate,
+                    trees,
+                    self.within,
+                    self.counting,
+                    at,
+                    self.tally,
+                    &mut *self.lout,
+                    &mut *self.rout,
+                    &mut *self.dout,
                 );
                 None
             }

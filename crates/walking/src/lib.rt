@@ -3,7 +3,7 @@
 
 mod order;
 
-ghost use Rattle.std.specs.Prelude.{◌≡◌, ◌<◌, Bool, ℕ};
+ghost use Rattle.std.specs.Prelude.{◌≡◌, ◌<◌, ℕ};
 ghost use Rattle.written.specs.Boxes.{Trees as TreePair};
 ghost use Rattle.written.specs.NodePairs.{root_pair};
 ghost use Rattle.written.specs.Answers.{Accepts};
@@ -45,11 +45,9 @@ pub trait Visitor {
     // how many visits are left at most
     ghost left: { Self → TreePair → ℕ };
 
-    // whether the far half is taken first
-    ghost far: { Bool };
-
+    // Whether the far half is taken first.
     fn far_first(&self) -> bool
-        ensures { result ≡ far };
+        ensures { (j : TreePair) → (walk (setting self.now) j).order ≡ order_by result };
 
     // Which side is split, or none where the visit has ended.
     fn visit(&mut self, trees: &Trees, at: Nodes, boxes: &Boxes) -> Option<Side>
@@ -61,8 +59,6 @@ pub trait Visitor {
         ensures ready { ready self.new (lent_trees trees.now) }
         ensures setting { setting self.new ≡ setting self.old }
         ensures fewer { left self.new (lent_trees trees.now) < left self.old (lent_trees trees.now) };
-
-    ghost in_order: { (s : Setting) (j : TreePair) → (walk s j).order ≡ order_by far };
 }
 
 // Each turn visits the node pair at hand, or takes one waiting entry; when nothing waits, the walk is over.
@@ -73,6 +69,7 @@ pub fn walk<V: Visitor>(trees: &Trees, visitor: &mut V)
     ensures done { V.done visitor.new ≡ (V.walk (V.setting visitor.old) (lent_trees trees.now)).walks (root_pair (lent_trees trees.now)) (V.done visitor.old) }
     ensures setting { V.setting visitor.new ≡ V.setting visitor.old }
 {
+    let far_first = visitor.far_first();
     let mut next = Some(Nodes::roots(trees));
     let mut boxes = Boxes::everywhere();
     let mut stack = Stack::empty();
@@ -88,7 +85,7 @@ pub fn walk<V: Visitor>(trees: &Trees, visitor: &mut V)
                         next = Some(down.near);
                     } else {
                         let i = slot(side, down.axis);
-                        let halves = in_order(visitor.far_first(), down);
+                        let halves = in_order(far_first, down);
                         stack.push(Waiting::Half {
                             side,
                             axis: down.axis,
@@ -97,7 +94,7 @@ pub fn walk<V: Visitor>(trees: &Trees, visitor: &mut V)
                             pivot: down.pivot,
                             at: halves.second,
                         });
-                        cut_first(visitor.far_first(), &mut boxes, i, down.pivot);
+                        cut_first(far_first, &mut boxes, i, down.pivot);
                         next = Some(halves.first);
                     }
                 }
@@ -116,7 +113,7 @@ pub fn walk<V: Visitor>(trees: &Trees, visitor: &mut V)
                         at: second,
                     } => {
                         let i = slot(side, axis);
-                        cut_second(visitor.far_first(), &mut boxes, i, min, max, pivot);
+                        cut_second(far_first, &mut boxes, i, min, max, pivot);
                         stack.push(Waiting::Restore {
                             side,
                             axis,

@@ -1,7 +1,6 @@
 -- `walk` meets its contract: the loop's invariant is `Going`, with both trees accepted and the visitor ready as it was set. Assumes nothing.
 use mathlib.Core.Path.{refl, sym, ap, ap₂, ◌∙◌}
 use mathlib.Core.List.{List}
-use mathlib.Core.Bool.{Bool}
 use Prim.Native.Nat.{ℕ, ◌+◌}
 use native.Mathlib.Omega.{arith}
 use lib.ListN.{length, set}
@@ -12,13 +11,11 @@ use Rattle.cursor.specs.Lent.{lent_trees}
 use Rattle.steps.specs.declared.waiting.Waiting.{Waiting}
 use Rattle.steps.specs.declared.waiting.Waiting.TheVariants.{Restore}
 use Rattle.metric.specs.Flat.{boxes_of}
-use Rattle.steps.proofs.Halves.{first, second, first_boxes, waiting_boxes}
 use Rattle.steps.proofs.Waits.{pop_takes}
 use Rattle.steps.proofs.Reading.{keeps}
 use Rattle.steps.proofs.Going.{start, at_some, at_none, at_any, restacked, room}
 use Rattle.steps.proofs.Visiting.{splits_here, axis_small, slot_small, turn_to_near}
 use Rattle.steps.proofs.Taking.{turn_to_back, turn_over}
-use Rattle.walking.specs.Orders.{order_by}
 use Rattle.walking.proofs.Turning.{came_to, under, turn_halves, turn_second}
 use Rattle.walking.proofs.walk.Goals as goal
 
@@ -87,9 +84,9 @@ loop-next-preserved-else-is_top g c =
     let i = l.invariant in
     let b = boxes_of l.boxes.min l.boxes.max in
     let d = c.descend-down.result in
-    let o = g.met.V.Visitor.in_order (g.V.Visitor.setting c.args.visitor.now) (lent_trees c.args.trees.now) in
+    let o = c.far_first-far_first.ensures (lent_trees c.args.trees.now) in
     let v = came_to _ g.V.Visitor.walk _ _ _ i.2 c.in-Some-visit.is c.visit.ensures.visited in
-    (i.0, c.visit.ensures.ready, c.visit.ensures.setting ∙ i.2, i.3, restacked c.push.ensures.entries c.push.ensures.len (turn_halves i.0 _ o (at_some c.in-Some.is i.4) v.0 c.descend-down.ensures v.1 c.slot-i.ensures (c.cut_first.ensures ∙ ap (λ (f : Bool). first_boxes (order_by f) c.slot-i.result d.pivot b) c.far_first-else-is_top.ensures) (c.in_order-halves.ensures.first ∙ ap (λ (f : Bool). first (order_by f) d.near d.far) c.far_first.ensures) (c.in_order-halves.ensures.second ∙ ap (λ (f : Bool). second (order_by f) d.near d.far) c.far_first.ensures) (sym c.is_top.ensures ∙ c.if-is_top.false)))
+    (i.0, c.visit.ensures.ready, c.visit.ensures.setting ∙ i.2, i.3, restacked c.push.ensures.entries c.push.ensures.len (turn_halves i.0 _ o (at_some c.in-Some.is i.4) v.0 c.descend-down.ensures v.1 c.slot-i.ensures c.cut_first.ensures c.in_order-halves.ensures.first c.in_order-halves.ensures.second (sym c.is_top.ensures ∙ c.if-is_top.false)))
 
 -- ---- an entry is taken
 
@@ -113,10 +110,10 @@ loop-next-preserved-in-Half g c =
     let l = c.loop-next in
     let i = l.invariant in
     let e = pop_takes _ _ _ c.pop.ensures.value ∙ c.in-Some-pop.is ∙ ap Some c.in-Half.is in
-    let o = g.met.V.Visitor.in_order (g.V.Visitor.setting c.args.visitor.now) (lent_trees c.args.trees.now) in
+    let o = c.far_first-far_first.ensures (lent_trees c.args.trees.now) in
     let h = c.in-Half in
     let r = c.push-in-Half.ensures in
-    (i.0, i.1, i.2, i.3, restacked (r.entries ∙ ap₂ (λ (s : List Waiting) (n : ℕ). set s n (Restore h.side h.axis h.min h.max)) c.pop.ensures.entries c.pop.ensures.len) (r.len ∙ ap (λ (n : ℕ). n + 1) c.pop.ensures.len) (turn_second i.0 _ o (at_none c.in-None.is i.4) e c.slot-i-in-Half.ensures (c.cut_second.ensures ∙ ap (λ (f : Bool). waiting_boxes (order_by f) c.slot-i-in-Half.result h.min h.max h.pivot (boxes_of l.boxes.min l.boxes.max)) c.far_first-in-Half.ensures)))
+    (i.0, i.1, i.2, i.3, restacked (r.entries ∙ ap₂ (λ (s : List Waiting) (n : ℕ). set s n (Restore h.side h.axis h.min h.max)) c.pop.ensures.entries c.pop.ensures.len) (r.len ∙ ap (λ (n : ℕ). n + 1) c.pop.ensures.len) (turn_second i.0 _ o (at_none c.in-None.is i.4) e c.slot-i-in-Half.ensures c.cut_second.ensures))
 
 pub loop-next-preserved : goal.loop-next-preserved
 loop-next-preserved g c =

@@ -1,10 +1,9 @@
 -- A visit of the nearest walk: what it needs holds of node pairs of accepted trees, and it does what the walk does there. Assumes nothing.
-use mathlib.Core.Path.{◌≡◌, refl, ap, ◌∙◌}
+use mathlib.Core.Path.{refl, ap}
 use native.Mathlib.Omega.{arith}
 use Rattle.written.specs.Check.{rule₁}
 use Rattle.written.specs.NodePairs.{left_side}
 use Rattle.written.specs.Totals.{Totals}
-use Rattle.cursor.specs.Lent.{lent_trees}
 use Rattle.steps.proofs.Reading.{keeps, ordered_both}
 use Rattle.nearvisit.specs.Held.{Held}
 use Rattle.nearest.proofs.Turning.{tally_examined, leaves_here, held_here, box_here, splits_with, ended, few_examined, unvisited_yet}

@@ -1,5 +1,5 @@
 -- A visit of the radius walk: what it needs holds of node pairs of accepted trees, and it does what the walk does there. Assumes nothing.
-use mathlib.Core.Path.{◌≡◌, refl, ap, ◌∙◌}
+use mathlib.Core.Path.{refl, ap}
 use native.Mathlib.Omega.{arith}
 use Rattle.written.specs.Check.{rule₁}
 use Rattle.written.specs.NodePairs.{left_side}
