@@ -22,7 +22,7 @@ use Rattle.steps.specs.Popping.{nowhere}
 use Rattle.steps.specs.Standing.{pair_at}
 use Rattle.steps.proofs.Halves.{Order, slot_of, put, waiting_boxes}
 use Rattle.steps.proofs.Waits.{view}
-use Rattle.steps.proofs.Pending.{levels_left, Walk, resume, resume_none, ahead, resume_grows, ahead_grows}
+use Rattle.steps.proofs.Pending.{levels_left, Walk, resume, resume_none, ahead}
 
 -- each half that waits is good for its turn and leaves room for what it will push; each entry names an axis
 abbrev pub Sound : Trees → Order → Boxes → List Waiting → Type 0
@@ -63,28 +63,9 @@ module _ {j : Trees} {W : Type 0} (k : Walk j W) where
       })
 
 module _ {j : Trees} {W : Type 0} {k : Walk j W} {all : W} {at : Nodes} {b : Boxes} {w : W} {stack : List Waiting} {len : ℕ} where
-  -- the node pair at hand, or none
-  pub at_hand : {here : Bool} → here ≡ true → Going k all at b w stack len here → Going k all at b w stack len true
-  at_hand e g = subst (λ (h : Bool). Going k all at b w stack len h) e g
-
-  pub none_at_hand : {here : Bool} → here ≡ false → Going k all at b w stack len here → Going k all at b w stack len false
-  none_at_hand e g = subst (λ (h : Bool). Going k all at b w stack len h) e g
-
   -- an array of 25 never runs over
   pub room : Accepts j → {here : Bool} → Going k all at b w stack len here → len ≤ 24
   room ok g = omega (arith, g.deep, levels_fit j ok)
-
-  -- a number that falls from no node pair on is never above what the whole walk comes to
-  pub never_above : (f : W → ℕ) → ((s : NodePair) (y : W) → f y ≤ f (k.walks s y)) → {here : Bool} → Going k all at b w stack len here → f w ≤ f all
-  never_above f grows {here} g =
-      let y : W = ahead k here (pair_at at b) w in
-      subst (λ (z : W). f w ≤ f z) g.owes (omega (arith, ahead_grows k f grows here (pair_at at b) w, resume_grows k f grows b (view len stack) y))
-
-  -- and below it, if it rises from each, while a node pair is at hand
-  pub still_below : (f : W → ℕ) → ((s : NodePair) (y : W) → f y < f (k.walks s y)) → Going k all at b w stack len true → f w < f all
-  still_below f rises g =
-      let y : W = k.walks (pair_at at b) w in
-      subst (λ (z : W). f w < f z) g.owes (omega (arith, rises (pair_at at b) w, resume_grows k f (λ s z. omega (arith, rises s z)) b (view len stack) y))
 
 -- ---- the node pair at hand, as the code holds it
 

@@ -1,5 +1,5 @@
 -- The order in which the two halves of a node pair are taken, and the box sides of each. Assumes nothing.
-use mathlib.Core.Path.{◌≡◌, ap}
+use mathlib.Core.Path.{◌≡◌}
 use Prim.Native.Nat.{ℕ, ◌+◌, ◌<◌}
 use native.Mathlib.Omega.{arith}
 use lib.ListN.{get_or, set, length-set}
@@ -8,7 +8,6 @@ use lib.Ieee.{Float, nan}
 use Rattle.written.specs.Boxes.{Boxes, lowered_to, raised_to, lowered, raised}
 use Rattle.written.specs.NodePairs.{corner}
 use Rattle.written.proofs.Laws.Boxes.{Sized}
-use Rattle.metric.specs.Flat.{boxes_of}
 use Rattle.cursor.specs.Held.{side_of}
 use Rattle.cursor.specs.declared.lent.Side.TheVariants.{Left, Right}
 use Rattle.cursor.specs.declared.lent.Side.{Side as HeldSide}
@@ -87,10 +86,3 @@ put_back far_first i v b = simp (set-set, set-get_or)
 pub put_second : (o : Order) (i : ℕ) (v : Float) (b : Boxes) → waiting_boxes o i (get_or b.mins i nan) (get_or b.maxs i nan) v (first_boxes o i v b) ≡ second_boxes o i v b
 put_second near_first i v b = simp (set-set, set-get_or)
 put_second far_first i v b = simp (set-set, set-get_or)
-
--- as the code has them
-pub put_lowered : (b : Boxes) (i : ℕ) (v : Float) {max : Float} → max ≡ lowered_to v (get_or b.maxs i nan) → boxes_of b.mins (set b.maxs i max) ≡ lowered b i v
-put_lowered b i v e = ap (λ (m : Float). boxes_of b.mins (set b.maxs i m)) e
-
-pub put_raised : (b : Boxes) (i : ℕ) (v : Float) {min : Float} → min ≡ raised_to v (get_or b.mins i nan) → boxes_of (set b.mins i min) b.maxs ≡ raised b i v
-put_raised b i v e = ap (λ (m : Float). boxes_of (set b.mins i m) b.maxs) e

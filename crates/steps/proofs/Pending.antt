@@ -94,7 +94,3 @@ module _ {j : Trees} {W : Type 0} (k : Walk j W) where
         let s : NodePair = pair_at at (waiting_boxes k.order (slot_of side axis) lo hi v b) in
         omega (arith, grows s w, resume_grows (put (slot_of side axis) lo hi b) ws (k.walks s w))
     resume_grows b (Restore side axis lo hi ∷ ws) w = resume_grows (put (slot_of side axis) lo hi b) ws w
-
-    pub ahead_grows : (here : Bool) (s : NodePair) (w : W) → f w ≤ f (ahead here s w)
-    ahead_grows true s w = grows s w
-    ahead_grows false s w = omega arith

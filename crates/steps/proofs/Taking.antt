@@ -14,7 +14,7 @@ use Rattle.steps.specs.declared.waiting.Waiting.{Waiting}
 use Rattle.steps.specs.declared.waiting.Waiting.TheVariants.{Half, Restore}
 use Rattle.std.specs.Prelude.{Some, None}
 use Rattle.steps.specs.Standing.{pair_at}
-use Rattle.steps.proofs.Halves.{slot_of, within_boxes, put, put_put, put_sized, waiting_min, waiting_max, waiting_boxes}
+use Rattle.steps.proofs.Halves.{slot_of, put, put_put, put_sized, waiting_min, waiting_max, waiting_boxes}
 use Rattle.steps.proofs.Waits.{view, view_push, view_length, taken, none_taken, some_taken}
 use Rattle.steps.proofs.Pending.{Walk, resume, resume_none, resume_half, resume_back}
 use Rattle.steps.proofs.Going.{Sound, Going, room}
@@ -35,7 +35,7 @@ module _ {j : Trees} {W : Type 0} {k : Walk j W} (ok : Accepts j) {all : W} {at 
     sound_half : Sound j k.order b (Half side axis lo hi v f ∷ rest)
     sound_half = subst (Sound j k.order b) (some_taken len stack e).1 g.waits
 
-    pub half_axis : axis < 4
+    half_axis : axis < 4
     half_axis = sound_half.2
 
     turn_half : Going k all f cut w (set stack (len - 1) (Restore side axis lo hi)) (len - 1 + 1) true
@@ -69,16 +69,10 @@ module _ {j : Trees} {W : Type 0} {k : Walk j W} (ok : Accepts j) {all : W} {at 
         subst₂ (λ (n : ℕ) (x : Float). Going k all f (boxes_of (set b.mins n x) (set b.maxs n (waiting_max k.order v hi))) w (set stack (len - 1) r₀) (len - 1 + 1) true) (sym p) (sym q) turn_half in
         subst₂ (λ (x : Float) (y : Waiting). Going k all f (boxes_of (set b.mins a min) (set b.maxs a x)) w (set stack (len - 1) y) (len - 1 + 1) true) (sym m) (sym s) g₁
 
-    pub half_slot : {a : ℕ} → a ≡ slot_of side axis → a < 8
-    half_slot p = within_boxes side axis p half_axis
-
   -- a box side is put back
   module _ (side : HeldSide) (axis : ℕ) (lo hi : Float) (e : Takes (Restore side axis lo hi)) where
     sound_side : Sound j k.order b (Restore side axis lo hi ∷ rest)
     sound_side = subst (Sound j k.order b) (some_taken len stack e).1 g.waits
-
-    pub side_axis : axis < 4
-    side_axis = sound_side.0
 
     turn_back : Going k all at (put (slot_of side axis) lo hi b) w stack (len - 1) false
     turn_back =
@@ -95,9 +89,6 @@ module _ {j : Trees} {W : Type 0} {k : Walk j W} (ok : Accepts j) {all : W} {at 
 
     pub turn_to_back : {a : ℕ} {here : Bool} → a ≡ slot_of side axis → here ≡ false → Going k all at (boxes_of (set b.mins a lo) (set b.maxs a hi)) w stack (len - 1) here
     turn_to_back p h = subst₂ (λ (n : ℕ) (z : Bool). Going k all at (boxes_of (set b.mins n lo) (set b.maxs n hi)) w stack (len - 1) z) (sym p) (sym h) turn_back
-
-    pub side_slot : {a : ℕ} → a ≡ slot_of side axis → a < 8
-    side_slot p = within_boxes side axis p side_axis
 
   -- when nothing waits, the walk is over
   pub turn_over : taken (view len stack) ≡ None → w ≡ all
