@@ -17,7 +17,8 @@ use metric::Within;
 use steps::Tally;
 use steps::nodes::{Nodes, area};
 
-// Both at leaves: the leaf loop for counts, or the one for pairs.
+// Both at leaves: the leaf loop for counts, or the one for pairs. Never inlined, since within the walk the pairs loop is 15 in 100 slower.
+#[inline(never)]
 fn measure(
     trees: &Trees,
     within: Within,
