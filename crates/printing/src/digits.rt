@@ -2,20 +2,15 @@
 ghost use Rattle.std.specs.Prelude.{◌≡◌, ◌<◌, ◌≤◌, length, take};
 ghost use Rattle.printing.specs.Digits.{hex_digit_ascii, last_digits, IsDigitCount};
 
-// How many digits n takes in a base, or `width` where that is more.
+// How many digits n takes in a base, or `width` where that is more. 0 has no logarithm, and takes one digit.
 fn count(n: u64, base: u64, width: usize) -> usize
     requires some { 1 < base }
     requires padded { 0 < width }
     ensures { IsDigitCount base width n result }
 {
-    let mut k = 1;
-    let mut rest = n / base;
-    // A `while`, as the number of turns is what is sought.
-    while rest > 0 {
-        rest /= base;
-        k += 1;
-    }
-    k.max(width)
+    n.checked_ilog(base)
+        .map_or(1, |k| k as usize + 1)
+        .max(width)
 }
 
 // A digit: `0` to `9`, then `a` to `f`.
@@ -38,6 +33,7 @@ fn store(n: u64, base: u64, k: usize, out: &mut [u8])
     ensures { take k out.new ≡ last_digits base k n }
 {
     let mut rest = n;
+    // By index: after a loop over `iter_mut` a proof knows no element of out.
     for i in (0..k).rev() {
         out[i] = ascii(rest % base);
         rest /= base;

@@ -1,26 +1,32 @@
-use Rattle.std.proofs.Common.{◌≡◌, ℕ, max, rules, ◌-◌, ◌/◌, ◌^◌, ◌≤◌, ◌<◌, ap, subst, ◌∙◌, arith}
-use Rattle.printing.proofs.Powers.{two_mul_div_le, div_pow_one, div_pow_div, pow_le_of_some, lt_pow_of_none}
+-- One digit more than the logarithm, and one where there is none, which is where n is 0. Assumes nothing.
+use Rattle.std.proofs.Common.{◌≡◌, ℕ, suc, ◌+◌, ◌-◌, ◌*◌, ◌^◌, ◌≤◌, ◌<◌, max, rules, arith, add-one, ap, subst, ◌∙◌}
+use Rattle.std.proofs.Math.Nat.{pow-succ', pow-le-pow_right, one-le-pow}
+use Rattle.std.specs.Prelude.{IfSome, IsSome, MatchOption}
+use Rattle.std.specs.declared.option.Option.{Option}
+use Rattle.std.specs.declared.option.Option.TheVariants.{None, Some}
+use Rattle.printing.specs.Digits.{IsDigitCount}
 use Rattle.printing.proofs.digits.count.Goals as goal
 
-pub loop-rest-init : goal.loop-rest-init
-loop-rest-init c = record { some = omega arith; few = omega (arith, two_mul_div_le c.args.n c.args.base c.requires.some); left = div_pow_one c.args.n c.args.base; wanted = omega arith }
+-- no logarithm: one digit
+of_none : (b w n m : ℕ) → 1 < b → 0 < w → n < 1 → m ≡ max 1 w → IsDigitCount b w n m
+of_none b w n m base padded none f =
+    let one : 1 ≤ b ^ m = one-le-pow m b (omega arith) in (omega arith, omega arith, λ more. absurd (omega arith))
 
-pub loop-rest-preserved : goal.loop-rest-preserved
-loop-rest-preserved c = record {
-  some = omega arith;
-  few = omega (arith, two_mul_div_le c.loop-rest.rest c.args.base c.requires.some);
-  left = ap (λ (m : ℕ). m / c.args.base) c.loop-rest.invariant.left ∙ div_pow_div c.args.n c.args.base c.loop-rest.k;
-  wanted = λ _. pow_le_of_some c.args.n c.args.base c.loop-rest.k (omega arith) (omega arith);
-}
+-- b ^ k ≤ n < b ^ (k + 1), so k + 1 digits hold n and k do not
+of_log : (b w n k m : ℕ) → 1 < b → 0 < w → b ^ k ≤ n → n < b * b ^ k → m ≡ max (k + 1) w → IsDigitCount b w n m
+of_log b w n k m base padded le gt f =
+    let e : k + 1 ≡ suc k = add-one k in
+    let p : b ^ (k + 1) ≡ b * b ^ k = ap (λ (j : ℕ). b ^ j) e ∙ pow-succ' b k in
+    let q : b ^ (k + 1) ≤ b ^ m = pow-le-pow_right (omega arith) (omega arith) in
+    let fewest = λ (more : w < m). let s : k ≡ m - 1 = omega arith in subst (λ (j : ℕ). b ^ j ≤ n) s le in
+    (omega arith, omega arith, fewest)
+
+-- o is the logarithm of n, r the digits without padding; Q is what is known of r where there is one
+counted : (o : Option ℕ) (b w n r m : ℕ) (Q : ℕ → Type 0) → 1 < b → 0 < w → (0 < n × 2 ≤ b → IsSome o) → IfSome o (λ k. b ^ k ≤ n) → IfSome o (λ k. n < b * b ^ k) → MatchOption o (r ≡ 1) Q → ((k : ℕ) → Q k → r ≡ k + 1) → m ≡ max r w → IsDigitCount b w n m
+counted None b w n r m Q base padded some le gt e q f = of_none b w n m base padded (grind (arith, some)) (f ∙ ap (λ (j : ℕ). max j w) e)
+counted (Some k) b w n r m Q base padded some le gt e q f = of_log b w n k m base padded le gt (f ∙ ap (λ (j : ℕ). max j w) (q k e))
 
 pub returns : goal.returns
 returns c =
-    let k = c.loop-rest.k in
-    let base = c.args.base in
-    let m : c.max.result ≡ max k c.args.width = rw c.max.ensures (search rules) in
-    let none : c.args.n / base ^ k < 1 = omega (arith, c.loop-rest.invariant.left) in
-    let most = lt_pow_of_none c.args.n base k c.max.result (omega arith) none (omega arith) in
-    let fewest = λ (more : c.args.width < c.max.result).
-    let e : k ≡ c.max.result = omega arith in
-    subst (λ (j : ℕ). base ^ (j - 1) ≤ c.args.n) e (c.loop-rest.invariant.wanted (omega arith)) in
-    (omega arith, most, fewest)
+    let log = c.checked_ilog.ensures in
+    counted c.checked_ilog.result _ _ _ _ _ _ c.requires.some c.requires.padded log.variant.1 log.power_le log.next_power_gt c.map_or.ensures (λ k q. search rules) c.max.ensures
