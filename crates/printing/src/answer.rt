@@ -4,7 +4,7 @@ ghost use Rattle.printing.specs.Text.{line as line_of, lines as lines_of, first_
 ghost use Rattle.printing.specs.Rows.{found, rows, totalled};
 ghost use Rattle.printing.specs.Puts.{Puts};
 
-use crate::bytes::Page;
+use crate::page::Page;
 
 // `refused`, number and side: numbers, since they are what is printed.
 pub fn refused(out: &mut [u8], number: u32, side: u32) -> usize

@@ -5,8 +5,8 @@ ghost use Rattle.std.specs.Float.{binary64};
 ghost use Rattle.printing.specs.Numerals.{decimal as decimal_of, hexadecimal as hexadecimal_of};
 ghost use Rattle.printing.specs.Puts.{Puts};
 
-use crate::bytes::Page;
 use crate::digits::{decimal_digits, hex_digits};
+use crate::page::Page;
 
 // The bits of a float. A NaN has many, of which this is one; no distance that is printed is NaN.
 fn bits(x: f64) -> u64

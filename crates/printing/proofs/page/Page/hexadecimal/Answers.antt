@@ -2,7 +2,7 @@ use Rattle.std.proofs.Common.{◌≡◌, ℕ, length, ap₂, ◌∙◌, arith}
 use Rattle.printing.specs.Digits.{last_digits}
 use Rattle.printing.specs.Numerals.{hexadecimal}
 use Rattle.printing.specs.Putting.{puts_as}
-use Rattle.printing.proofs.bytes.Page.hexadecimal.Goals as goal
+use Rattle.printing.proofs.page.Page.hexadecimal.Goals as goal
 
 -- the digits are no fewer than 16, and no more
 pub returns-clause-puts : goal.returns-clause-puts

@@ -1,4 +1,4 @@
-// Bytes as they are.
+// A page: a lent buffer that is filled from a place on.
 ghost use Rattle.std.specs.Prelude.{◌≡◌, ◌+◌, ◌≤◌, length, set};
 ghost use Rattle.printing.specs.Puts.{Puts};
 
@@ -11,7 +11,7 @@ fn put(out: &mut [u8], at: usize, b: u8)
     }
 }
 
-// A lent buffer, and the place after what was written.
+// The buffer, and the place after what was written.
 #[derive(Drop)]
 pub struct Page<'a> {
     pub out: &'a mut [u8],
@@ -25,8 +25,8 @@ impl Page<'_> {
         ensures same_buffer { self.new.out.ghost_name ≡ self.old.out.ghost_name }
         ensures puts { Puts self.old.out.now self.old.at s.now self.new.out.now self.new.at }
     {
-        for i in 0..s.len() {
-            put(self.out, self.at + i, s[i]);
+        for (i, b) in s.iter().enumerate() {
+            put(self.out, self.at + i, *b);
         }
         self.at += s.len();
     }

@@ -1,7 +1,7 @@
 use Rattle.std.proofs.Common.{◌∙◌}
 use Rattle.printing.specs.Putting.{puts_as}
 use Rattle.printing.specs.Places.{fewest_decimal}
-use Rattle.printing.proofs.bytes.Page.decimal.Goals as goal
+use Rattle.printing.proofs.page.Page.decimal.Goals as goal
 
 -- the digits are the fewest, so they are the numeral
 pub returns-clause-puts : goal.returns-clause-puts

@@ -4,7 +4,7 @@ use Rattle.std.proofs.Math.ListN.{set}
 use Rattle.std.proofs.Math.Seq.{take-suc}
 use Rattle.printing.specs.Puts.{Puts}
 use Rattle.printing.specs.Putting.{puts_one, puts_then, puts_as}
-use Rattle.printing.proofs.bytes.Page.text.Goals as goal
+use Rattle.printing.proofs.page.Page.text.Goals as goal
 
 -- one more
 next : {b c d : List ℕ} {at : ℕ} (s : List ℕ) (i : ℕ) → i < length s → Puts b at (take i s) c (at + i) → d ≡ set c (at + i) (get_or s i 0) → Puts b at (take (i + 1) s) d (at + (i + 1))

@@ -1,7 +1,7 @@
 -- The first i bytes are put.
 use Rattle.std.proofs.Common.{◌≡◌, ◌+◌, take}
 use Rattle.printing.specs.Puts.{Puts}
-use Rattle.printing.proofs.bytes.Page.text.Given as goal
+use Rattle.printing.proofs.page.Page.text.Given as goal
 
 abbrev pub invariant-loop-i : goal.invariant-loop-i
 invariant-loop-i l =
