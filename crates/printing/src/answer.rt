@@ -63,13 +63,14 @@ pub fn lines(
     ensures upper_bound { result ≤ at + 59 * n }
 {
     let mut page = Page { out, at };
+    // By index, as the three slices are read at one place: over two zips the loop has none, and an invariant would speak of nested pairs.
     for i in 0..n {
         line(&mut page, lefts[i], rights[i], distances[i]);
     }
     page.at
 }
 
-// The last line.
+// The last line. The place goes in and out, as no caller holds a loan of out between two parts; the numbers stand as they are printed.
 pub fn totals(
     out: &mut [u8],
     at: usize,
