@@ -17,6 +17,7 @@ pub fn read_full<R: io::Read>(from: &mut R, out: &mut [u8]) -> io::Result<usize>
     ensures err { OnErr result (LosesFront (R.remaining from.old) (R.remaining from.new) out.new) }
 {
     let mut done = 0;
+    // A loop over read: std's read_exact says nothing of what it read before an error, and read_to_end fills a Vec, which needs a heap.
     while done < out.len() {
         let more = from.read(&mut out[done..])?;
         if more == 0 {
