@@ -19,6 +19,7 @@ fn record(s: &[u8]) -> Option<(&[u8], &[u8])>
 pub fn all(rt: &impl Print, s: &[u8]) -> io::Result<bool> {
     let mut rest = s;
     let mut i = 0;
+    // i numbers the jobs, it indexes nothing; how long a record is, is known when it is read.
     while !rest.is_empty() {
         let Some((job, after)) = record(rest) else {
             rt.println("cut short")?;
