@@ -7,7 +7,7 @@ ghost use Rattle.job.specs.Shown.{Prints};
 
 use crate::told::{shown, told};
 use cursor::Trees;
-use metric::{Edge, Within};
+use metric::Within;
 use reading::Mode;
 
 // Pairs up to or under the radius.
@@ -45,19 +45,9 @@ fn nearest_text(trees: &Trees, out: &mut [u8]) -> usize
 pub fn join_text(mode: Mode, radius: f64, trees: &Trees, out: &mut [u8]) -> usize
     ensures { Prints out.old (join_text (lent_trees trees.now) (mode_number mode) radius) out.new result }
 {
-    let up_to = Within {
-        radius,
-        edge: Edge::UpTo,
-    };
-    let under = Within {
-        radius,
-        edge: Edge::Under,
-    };
     match mode {
-        Mode::PairsUpTo => pairs_text(trees, up_to, out),
-        Mode::PairsUnder => pairs_text(trees, under, out),
-        Mode::CountsUpTo => counts_text(trees, up_to, out),
-        Mode::CountsUnder => counts_text(trees, under, out),
+        Mode::Pairs(edge) => pairs_text(trees, Within { radius, edge }, out),
+        Mode::Counts(edge) => counts_text(trees, Within { radius, edge }, out),
         Mode::Nearest => nearest_text(trees, out),
     }
 }

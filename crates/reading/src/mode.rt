@@ -2,13 +2,13 @@
 ghost use Rattle.std.specs.Prelude.{◌≡◌, leb, false, MatchOption};
 ghost use Rattle.reading.specs.Mode.{mode_number};
 
-// In the order of their numbers.
-#[derive(Clone, Copy, Debug, PartialEq, Eq)]
+use metric::Edge;
+
+// In the order of their numbers; those within a radius say how it is read.
+#[derive(Clone, Copy, PartialEq, Eq)]
 pub enum Mode {
-    PairsUpTo,
-    PairsUnder,
-    CountsUpTo,
-    CountsUnder,
+    Pairs(Edge),
+    Counts(Edge),
     Nearest,
 }
 
@@ -18,10 +18,10 @@ impl Mode {
         ensures { MatchOption result (leb byte 4 ≡ false) (λ m. mode_number m ≡ byte) }
     {
         match byte {
-            0 => Some(Mode::PairsUpTo),
-            1 => Some(Mode::PairsUnder),
-            2 => Some(Mode::CountsUpTo),
-            3 => Some(Mode::CountsUnder),
+            0 => Some(Mode::Pairs(Edge::UpTo)),
+            1 => Some(Mode::Pairs(Edge::Under)),
+            2 => Some(Mode::Counts(Edge::UpTo)),
+            3 => Some(Mode::Counts(Edge::Under)),
             4 => Some(Mode::Nearest),
             _ => None,
         }

@@ -5,7 +5,7 @@ use crate::compare::{EMPTY, FAR};
 use crate::frame::Frame;
 use crate::lengths::Lengths;
 use cursor::Trees;
-use metric::{Edge, Within};
+use metric::Within;
 use reading::Mode;
 
 // Pairs into rooms of the given lengths: whether the answer, what is stored and what is not touched are as recorded.
@@ -45,19 +45,9 @@ fn nearest_same(trees: &Trees, n: Lengths, f: Frame<'_>) -> bool
 pub fn called(mode: Mode, radius: f64, trees: &Trees, n: Lengths, f: Frame<'_>) -> bool
     requires { Fits n }
 {
-    let up_to = Within {
-        radius,
-        edge: Edge::UpTo,
-    };
-    let under = Within {
-        radius,
-        edge: Edge::Under,
-    };
     match mode {
-        Mode::PairsUpTo => pairs_same(trees, up_to, n, f),
-        Mode::PairsUnder => pairs_same(trees, under, n, f),
-        Mode::CountsUpTo => counts_same(trees, up_to, f),
-        Mode::CountsUnder => counts_same(trees, under, f),
+        Mode::Pairs(edge) => pairs_same(trees, Within { radius, edge }, n, f),
+        Mode::Counts(edge) => counts_same(trees, Within { radius, edge }, f),
         Mode::Nearest => nearest_same(trees, n, f),
     }
 }

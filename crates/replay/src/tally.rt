@@ -1,6 +1,7 @@
 // How many were compared of each kind, and how many differ.
 ghost use Rattle.std.specs.Prelude.{◌≡◌, ◌+◌, ◌-◌, ◌^◌, min, IsTrue, IsFalse};
 
+use metric::Edge;
 use reading::Mode;
 
 #[derive(Clone, Copy, Default)]
@@ -50,10 +51,10 @@ impl Tally {
     // One more join: of a mode, or of none that can be read.
     pub fn join(&mut self, mode: Option<Mode>, same: bool) {
         match mode {
-            Some(Mode::PairsUpTo) => self.pairs_up_to.count(same),
-            Some(Mode::PairsUnder) => self.pairs_under.count(same),
-            Some(Mode::CountsUpTo) => self.counts_up_to.count(same),
-            Some(Mode::CountsUnder) => self.counts_under.count(same),
+            Some(Mode::Pairs(Edge::UpTo)) => self.pairs_up_to.count(same),
+            Some(Mode::Pairs(Edge::Under)) => self.pairs_under.count(same),
+            Some(Mode::Counts(Edge::UpTo)) => self.counts_up_to.count(same),
+            Some(Mode::Counts(Edge::Under)) => self.counts_under.count(same),
             Some(Mode::Nearest) => self.nearest.count(same),
             None => self.unreadable.count(same),
         }
