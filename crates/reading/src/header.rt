@@ -12,7 +12,7 @@ use crate::mode::Mode;
 fn size_ok(s: &[u8]) -> bool
     ensures { result ≡ size_ok s.now }
 {
-    16 <= s.len() && s.len() <= 16384
+    (16..=16384).contains(&s.len())
 }
 
 // KDJ.
@@ -37,11 +37,7 @@ pub fn mode_at(s: &[u8]) -> Option<Mode>
     ensures { MatchOption result (mode_ok s.now ≡ false) (λ m. (mode_ok s.now ≡ true) × (mode_number m ≡ mode s.now)) }
 {
     let mode = Mode::of(s[6])?;
-    if s[7] == 0 && (mode != Mode::Nearest || u64_at(s, 8) == 0) {
-        Some(mode)
-    } else {
-        None
-    }
+    (s[7] == 0 && (mode != Mode::Nearest || u64_at(s, 8) == 0)).then_some(mode)
 }
 
 // K is 1 to 4.
@@ -49,7 +45,7 @@ fn axes_ok(s: &[u8]) -> bool
     requires { 16 ≤ length s.now }
     ensures { result ≡ axes_ok s.now }
 {
-    1 <= s[5] && s[5] <= 4
+    (1..=4).contains(&s[5])
 }
 
 // The mode, or the first rule broken.
