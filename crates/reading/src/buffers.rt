@@ -12,6 +12,7 @@ fn fill<T: Little>(s: &[u8], part: Part, out: &mut [T])
     requires { (part.at + T.WIDTH * part.len ≤ length s.now) × (part.len ≤ length out.old) }
     ensures { take part.len out.new ≡ in_a_row T.WIDTH (T.value s.now) part.at part.len }
 {
+    // By index: after an `iter_mut` a proof knows no element that was written.
     for i in 0..part.len {
         out[i] = T::at(s, part.at + T::WIDTH * i);
     }

@@ -10,6 +10,8 @@ pub fn byte_at(s: &[u8], at: usize) -> u32
     u32::from(s[at])
 }
 
+// The widths by name: each is one line over std's `from_le_bytes`, as its definition has it, so eight bytes are two halves.
+
 // Two bytes.
 #[tactic(auto, unfolding(crate::specs::Little::number16))]
 pub fn u16_at(s: &[u8], at: usize) -> u32
