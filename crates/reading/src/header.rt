@@ -36,7 +36,7 @@ pub fn mode_at(s: &[u8]) -> Option<Mode>
     requires { 16 ≤ length s.now }
     ensures { MatchOption result (mode_ok s.now ≡ false) (λ m. (mode_ok s.now ≡ true) × (mode_number m ≡ mode s.now)) }
 {
-    let mode = Mode::of(s[6])?;
+    let mode = Mode::try_from(s[6]).ok()?;
     (s[7] == 0 && (mode != Mode::Nearest || u64_at(s, 8) == 0)).then_some(mode)
 }
 

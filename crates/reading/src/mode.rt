@@ -1,7 +1,7 @@
 // What a job asks for.
-ghost use Rattle.std.specs.Prelude.{◌≡◌, leb, false, MatchOption};
-ghost use Rattle.reading.specs.Mode.{mode_number};
+ghost use Rattle.reading.specs.Mode.{Decodes};
 
+use crate::bad_job::BadJob;
 use metric::Edge;
 
 // In the order of their numbers; those within a radius say how it is read.
@@ -12,18 +12,20 @@ pub enum Mode {
     Nearest,
 }
 
-impl Mode {
-    // By the job's byte; none where it is no mode's.
-    pub fn of(byte: u8) -> Option<Self>
-        ensures { MatchOption result (leb byte 4 ≡ false) (λ m. mode_number m ≡ byte) }
-    {
+// By the job's byte.
+impl TryFrom<u8> for Mode {
+    type Error = BadJob;
+
+    ghost try_from_gives = { Decodes };
+
+    fn try_from(byte: u8) -> Result<Self, BadJob> {
         match byte {
-            0 => Some(Mode::Pairs(Edge::UpTo)),
-            1 => Some(Mode::Pairs(Edge::Under)),
-            2 => Some(Mode::Counts(Edge::UpTo)),
-            3 => Some(Mode::Counts(Edge::Under)),
-            4 => Some(Mode::Nearest),
-            _ => None,
+            0 => Ok(Mode::Pairs(Edge::UpTo)),
+            1 => Ok(Mode::Pairs(Edge::Under)),
+            2 => Ok(Mode::Counts(Edge::UpTo)),
+            3 => Ok(Mode::Counts(Edge::Under)),
+            4 => Ok(Mode::Nearest),
+            _ => Err(BadJob::Mode),
         }
     }
 }
