@@ -44,7 +44,7 @@ pub fn answer(told: Result<Tally, Refusal>, s: &[u8]) -> bool
 fn same_bits(x: f64, bits: u64) -> bool
     ensures { result ≡ true → Bits x bits }
 {
-    x == x && f64::to_bits(x) == bits
+    !x.is_nan() && f64::to_bits(x) == bits
 }
 
 // Whether a stored pair is the one recorded at a place.
@@ -60,6 +60,7 @@ fn stored(s: &[u8], n: usize, l: &[u32; 1025], r: &[u32; 1025], d: &[f64; 1025])
     requires { (16 * n ≤ length s.now) × (n ≤ 1025) }
     ensures { result ≡ true → Stored s.now n l.now r.now d.now }
 {
+    // A loop here and in `untouched`: tried with `all`, `search` does not prove what is returned.
     for i in 0..n {
         if !same_pair(s, 16 * i, l[i], r[i], d[i]) {
             return false;

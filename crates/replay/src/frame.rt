@@ -13,6 +13,7 @@ pub struct Frame<'a> {
     pub text: &'a [u8],
     pub rest: &'a [u8],
     pub room: usize,
+    // 0 changes none: as the record has it, read by lengths::changed.
     pub buffer: u32,
     pub lent: usize,
 }

@@ -1,4 +1,4 @@
-// What a job asks for.
+// The mode of a recorded job, if its first bytes are right.
 ghost use Rattle.std.specs.Prelude.{◌≤◌, IfSome, IsTrue, length};
 
 use reading::{Mode, mode_at};

@@ -12,8 +12,8 @@ use crate::text::text_same;
 use cursor::{Tree, Trees};
 use reading::{Layout, Mode, byte_at, decode, f64_at, lay};
 
-// One tree's buffers, in arrays that no job fills.
-fn tree(
+// One tree's buffers, in arrays that no job fills: lent as arrays, so that the proof knows their lengths.
+fn decode_tree(
     job: &[u8],
     l: Layout,
     starts: &mut [u32; 4098],
@@ -37,12 +37,12 @@ fn decoded(f: Frame<'_>, mode: Mode, l: Layout, r: Layout, n: Lengths) -> bool
     let mut lstems = [0.0f64; 2048];
     let mut litems = [0u32; 65537];
     let mut lcoords = [0.0f64; 2048];
-    tree(job, l, &mut lstarts, &mut lstems, &mut litems, &mut lcoords);
+    decode_tree(job, l, &mut lstarts, &mut lstems, &mut litems, &mut lcoords);
     let mut rstarts = [0u32; 4098];
     let mut rstems = [0.0f64; 2048];
     let mut ritems = [0u32; 65537];
     let mut rcoords = [0.0f64; 2048];
-    tree(job, r, &mut rstarts, &mut rstems, &mut ritems, &mut rcoords);
+    decode_tree(job, r, &mut rstarts, &mut rstems, &mut ritems, &mut rcoords);
     let trees = Trees {
         k: byte_at(job, 5) as usize,
         left: Tree {
@@ -94,6 +94,7 @@ fn join_counted(f: Frame<'_>, t: &mut Tally) {
 pub fn replay(s: &[u8]) -> Tally {
     let mut t = Tally::default();
     let mut rest = s;
+    // A while: how long a record is, is known when it is read.
     while !rest.is_empty() {
         let Some(f) = framed(rest) else {
             t.texts.count(false);
