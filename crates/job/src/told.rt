@@ -12,10 +12,7 @@ use steps::Tally;
 pub fn shown(answer: Result<Tally, Refusal>) -> usize
     ensures { result ≡ lines_of answer }
 {
-    match answer {
-        Ok(tally) => tally.found as usize,
-        Err(_) => 0,
-    }
+    answer.map_or(0, |tally| tally.found as usize)
 }
 
 // The first line, a line for each of the first n places, the totals; or the refusal alone.
