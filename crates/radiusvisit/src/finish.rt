@@ -17,8 +17,7 @@ use metric::Within;
 use steps::Tally;
 use steps::nodes::{Nodes, area};
 
-// Both at leaves: the leaf loop for counts, or the one for pairs. Never inlined, since within the walk the pairs loop is 15 in 100 slower.
-#[inline(never)]
+// Both at leaves: the leaf loop for counts, or the one for pairs.
 fn measure(
     trees: &Trees,
     within: Within,
