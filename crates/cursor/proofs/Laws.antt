@@ -1,11 +1,13 @@
--- Laws on levels. Assumes nothing.
-use mathlib.Core.Path.{◌≡◌}
+-- Laws on levels, and on sides by their number. Assumes nothing.
+use mathlib.Core.Path.{◌≡◌, refl}
 use Prim.Native.Nat.{ℕ, zero, suc, ◌^◌, ◌≤◌, ◌<◌}
 use native.Mathlib.Decide.{dec_lt}
 use native.Mathlib.Omega.{arith}
 use lib.Pow.{pow_mono}
 use Rattle.written.specs.LentTree.{levels}
+use Rattle.written.specs.NodePairs.{left_side, right_side}
 use Rattle.written.proofs.Laws.LentTree.{levels_enough, levels_least}
+use Rattle.cursor.specs.Held.{side_at}
 
 -- an exponent whose power is still below m is below the levels over m
 pub below_levels : (m r : ℕ) → 2 ^ r < m → r < levels m
@@ -19,3 +21,11 @@ below_levels m r h = go (dec_lt r (levels m))
 pub levels_is : (m r : ℕ) → m ≤ 2 ^ r → ((i : ℕ) → i < r → 2 ^ i < m) → r ≡ levels m
 levels_is m zero h below = omega (arith, levels_least m 0 h)
 levels_is m (suc k) h below = omega (arith, levels_least m (suc k) h, below_levels m k (below k (omega arith)))
+
+pub side_left : (s : ℕ) → s ≡ 0 → side_at s ≡ left_side
+side_left zero e = refl
+side_left (suc s) e = absurd (omega arith)
+
+pub side_right : (s : ℕ) → (s ≡ 0 → ⊥) → side_at s ≡ right_side
+side_right zero e = absurd (e refl)
+side_right (suc s) e = refl

@@ -1,5 +1,5 @@
 -- Nodes, sides and tiles of document 01 as the code holds them, and what the code asks of them. Assumes nothing.
-use Rattle.std.specs.Prelude.{List, ℕ, ◌+◌, ◌*◌, ◌≤◌, ◌<◌, length, Float}
+use Rattle.std.specs.Prelude.{List, ℕ, zero, suc, ◌+◌, ◌*◌, ◌≤◌, ◌<◌, length, Float}
 use Rattle.written.specs.LentTree.{Cursor, levels}
 use Rattle.written.specs.NodePairs.{Side, left_side, right_side}
 use Rattle.cursor.specs.declared.node.Cursor.{Cursor as Held}
@@ -26,6 +26,11 @@ pub record Splits (c : Cursor) : Type 0 where
 abbrev pub side_of : HeldSide → Side
 side_of Left = left_side
 side_of Right = right_side
+
+-- by its number: 0 the left one, any other the right one
+abbrev pub side_at : ℕ → Side
+side_at zero = left_side
+side_at (suc n) = right_side
 
 -- axis d of n points holds the places of a tile
 pub record Column (coords : List Float) (n d start end : ℕ) : Type 0 where

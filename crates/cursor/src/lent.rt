@@ -2,7 +2,7 @@
 ghost use Rattle.std.specs.Prelude.{◌≡◌, ◌+◌, ◌-◌, ◌*◌, ◌≤◌, ◌<◌, min, length, take, drop, get_or};
 ghost use Rattle.std.specs.Float.{nan};
 ghost use Rattle.written.specs.NodePairs.{on_side};
-ghost use Rattle.cursor.specs.Held.{node_of, root_over, side_of, Column};
+ghost use Rattle.cursor.specs.Held.{node_of, root_over, side_of, side_at, Column};
 
 use crate::node::{Cursor, LeafIdx, StemIdx};
 
@@ -15,10 +15,26 @@ pub struct Tree<'a> {
     pub coords: &'a [f64],
 }
 
+// The coordinates of n points, axis by axis.
+#[derive(Clone, Copy)]
+pub struct Columns<'a> {
+    pub n: usize,
+    pub coords: &'a [f64],
+}
+
 #[derive(Clone, Copy, PartialEq, Eq)]
 pub enum Side {
     Left,
     Right,
+}
+
+impl Side {
+    // By its number: 0 is the left one, any other the right one.
+    pub fn by(number: usize) -> Self
+        ensures { side_of result ≡ side_at number }
+    {
+        if number == 0 { Side::Left } else { Side::Right }
+    }
 }
 
 // The places from one up to another, of one tree: those of a leaf, or of a tile.
@@ -97,13 +113,35 @@ impl<'a> Tree<'a> {
         self.stems[stem.0 as usize]
     }
 
-    // A tile is a part of the lent column itself: at most 32 coordinates of axis d.
+    // Its coordinates alone, which are as many on each axis as it has items.
+    pub fn columns(&self) -> Columns<'a>
+        ensures number { result.n ≡ length self.now.items.now }
+        ensures coords { result.coords ≡ self.now.coords }
+    {
+        Columns {
+            n: self.items.len(),
+            coords: self.coords,
+        }
+    }
+
+    // The tile of axis d.
     pub fn tile(&self, d: usize, tile: Places) -> &'a [f64]
         requires { Column self.now.coords.now (length self.now.items.now) d tile.from tile.to }
         ensures value { result.now ≡ take (tile.to - tile.from) (drop (d * length self.now.items.now + tile.from) self.now.coords.now) }
         ensures len { length result.now ≡ tile.to - tile.from }
     {
-        let column = d * self.items.len();
+        self.columns().tile(d, tile)
+    }
+}
+
+impl<'a> Columns<'a> {
+    // A tile is a part of the lent column itself: at most 32 coordinates of axis d.
+    pub fn tile(&self, d: usize, tile: Places) -> &'a [f64]
+        requires { Column self.now.coords.now self.now.n d tile.from tile.to }
+        ensures value { result.now ≡ take (tile.to - tile.from) (drop (d * self.now.n + tile.from) self.now.coords.now) }
+        ensures len { length result.now ≡ tile.to - tile.from }
+    {
+        let column = d * self.n;
         &self.coords[column + tile.from..column + tile.to]
     }
 }

@@ -4,5 +4,5 @@
 mod lent;
 mod node;
 
-pub use crate::lent::{Places, Side, Tree, Trees, tile_end};
+pub use crate::lent::{Columns, Places, Side, Tree, Trees, tile_end};
 pub use crate::node::{Cursor, Halves, LeafIdx, StemIdx, levels};

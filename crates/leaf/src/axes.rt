@@ -2,9 +2,9 @@
 ghost use Rattle.std.specs.Prelude.{◌-◌, ◌≤◌, cond, length, get_or};
 ghost use Rattle.std.specs.Float.{nan};
 ghost use Rattle.rounding.specs.Distance.{zero₊};
-ghost use Rattle.leaf.specs.Sums.{Holds, grown, sum_to, Fresh, PointTileIn};
+ghost use Rattle.leaf.specs.Sums.{Holds, grown, sum_to, Fresh, PointTile};
 
-use cursor::{Places, Tree};
+use cursor::{Columns, Places};
 
 // One axis more of the distances: where it is the FIRST, the sums begin at 0. The row comes as a slice, since lending the array as one tells the proof how long it is.
 fn add_axis<const FIRST: bool>(sums: &mut [f64], q: f64, column: &[f64])
@@ -18,10 +18,17 @@ fn add_axis<const FIRST: bool>(sums: &mut [f64], q: f64, column: &[f64])
     }
 }
 
-// All axes but the last, of the place p of one tree against a tile of the other. With one axis nothing is to be done: the sums are 0, and are never cleared for a point.
-pub fn first_axes(sums: &mut [f64; 32], k: usize, one: &Tree, p: usize, many: &Tree, tile: Places)
-    requires { PointTileIn k sums.old one.now p many.now tile }
-    ensures holds { Holds sums.new (tile.to - tile.from) (sum_to one.now.coords.now (length one.now.items.now) p many.now.coords.now (length many.now.items.now) tile.from (k - 1)) }
+// All axes but the last, of the place p of one tree's columns against a tile of the other's. With one axis nothing is to be done: the sums are 0, and are never cleared for a point.
+pub fn first_axes(
+    sums: &mut [f64; 32],
+    k: usize,
+    one: &Columns,
+    p: usize,
+    many: &Columns,
+    tile: Places,
+)
+    requires { PointTile k sums.old one.now.coords.now one.now.n p many.now.coords.now many.now.n tile.from tile.to }
+    ensures holds { Holds sums.new (tile.to - tile.from) (sum_to one.now.coords.now one.now.n p many.now.coords.now many.now.n tile.from (k - 1)) }
     ensures fresh { Fresh k sums.new }
 {
     if k == 1 {
@@ -29,7 +36,7 @@ pub fn first_axes(sums: &mut [f64; 32], k: usize, one: &Tree, p: usize, many: &T
     }
     add_axis::<true>(sums, one.coords[p], many.tile(0, tile));
     for d in 1..k - 1 {
-        let at = d * one.items.len() + p;
+        let at = d * one.n + p;
         add_axis::<false>(sums, one.coords[at], many.tile(d, tile));
     }
 }

@@ -32,7 +32,9 @@ fn point_count(trees: &Trees, within: Within, p: usize, right: Places, sums: &mu
     ensures value { result ≡ length (of_point (keeps_in trees.now within) p right.from right.to) }
     ensures fresh { Fresh trees.now.k sums.new }
 {
-    first_axes(&mut *sums, trees.k, &trees.left, p, &trees.right, right);
+    let one = trees.left.columns();
+    let many = trees.right.columns();
+    first_axes(&mut *sums, trees.k, &one, p, &many, right);
     let last = trees.k - 1;
     let at = last * trees.left.items.len() + p;
     passing(

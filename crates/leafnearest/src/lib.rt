@@ -66,7 +66,9 @@ fn point_nearest(
     ensures dists_after { answers items.new dists.new ≡ improved (points_in trees.now) left.from q (suc q) (answers items.old dists.old) }
     ensures fresh { Fresh trees.now.k sums.new }
 {
-    first_axes(&mut *sums, trees.k, &trees.right, q, &trees.left, left);
+    let one = trees.right.columns();
+    let many = trees.left.columns();
+    first_axes(&mut *sums, trees.k, &one, q, &many, left);
     let last = trees.k - 1;
     let x = trees.right.coords[last * trees.right.items.len() + q];
     let column = trees.left.tile(last, left);

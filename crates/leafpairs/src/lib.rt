@@ -44,7 +44,9 @@ impl<'a> Gather for Pairs<'a> {
         sums: &mut [f64; 32],
     ) {
         let dists = &mut *self.dists;
-        first_axes(&mut *sums, trees.k, &trees.left, p, &trees.right, right);
+        let one = trees.left.columns();
+        let many = trees.right.columns();
+        first_axes(&mut *sums, trees.k, &one, p, &many, right);
         let last = trees.k - 1;
         let at = last * trees.left.items.len() + p;
         let m = last_axis(

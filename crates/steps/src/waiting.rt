@@ -23,6 +23,20 @@ pub enum Waiting {
     },
 }
 
+// The place of the top entry of so many; 0 where nothing waits.
+pub fn top_of(len: usize) -> usize
+    ensures { result ≡ len - 1 }
+{
+    len.saturating_sub(1)
+}
+
+// The top entry, if any waits.
+pub fn pop(len: usize, top: Waiting) -> Option<Waiting>
+    ensures { result ≡ popped_of len top }
+{
+    (len != 0).then_some(top)
+}
+
 // Entries in an array, since the walk has no heap: a + b + 1 of them wait at most, and a tree has at most 12 levels.
 #[derive(Clone, Copy)]
 pub struct Stack {
@@ -62,10 +76,9 @@ impl Stack {
         ensures len { self.new.len ≡ self.old.len - 1 }
         ensures entries { self.new.entries ≡ self.old.entries }
     {
-        if self.len == 0 {
-            return None;
-        }
-        self.len -= 1;
-        Some(self.entries[self.len])
+        let top = top_of(self.len);
+        let entry = pop(self.len, self.entries[top]);
+        self.len = top;
+        entry
     }
 }

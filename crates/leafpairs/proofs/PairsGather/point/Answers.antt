@@ -25,7 +25,7 @@ returns-then-m-eq0-clause-gathered c =
     let Passing : List ℕ → Type 0 = λ l. let a = c.args in l ≡ places_of (passing (edge_of a.within.edge) a.within.radius (row distances)) (a.right.to - a.right.from) in
     let held : let a = c.args in Holds distances (a.right.to - a.right.from) (sum_to a.trees.now.left.coords.now (length a.trees.now.left.items.now) a.p a.trees.now.right.coords.now (length a.trees.now.right.items.now) a.right.from a.trees.now.k) = let a = c.args in
     let tile = c.tile in
-    measured a.trees.now.k a.trees.now.left.items.now a.trees.now.left.coords.now a.p a.trees.now.right.items.now a.trees.now.right.coords.now a.right.from (a.right.to - a.right.from) c.first_axes.new.sums distances tile.result.now c.requires.point_tile.some_axes c.first_axes.ensures.holds tile.ensures.value tile.ensures.len c.last_axis-m.ensures.holds in
+    measured a.trees.now.k a.trees.now.left.items.now a.trees.now.left.coords.now a.p a.trees.now.right.items.now a.trees.now.right.coords.now a.right.from (a.right.to - a.right.from) c.first_axes.new.sums distances tile.result.now c.requires.point_tile.some_axes (rw (c.columns-one.ensures.number, c.columns-one.ensures.coords, c.columns-many.ensures.number, c.columns-many.ensures.coords) at c.first_axes.ensures.holds) tile.ensures.value tile.ensures.len c.last_axis-m.ensures.holds in
     let stored : (l : List ℕ) → Passing l → let a = c.args in let s = filling a.self.now.found a.self.now.lout.now a.self.now.rout.now a.self.now.dout.now in puts s (pairs_at distances (get_or a.trees.now.left.items.now a.p 0) part l) ≡ puts s (of_point (keeps a.trees.now.k a.within.radius (edge_of a.within.edge) a.trees.now.left.items.now a.trees.now.left.coords.now a.trees.now.right.items.now a.trees.now.right.coords.now) a.p a.right.from a.right.to) = λ l e. let a = c.args in
     point_puts a.trees.now.k a.trees.now.left.items.now a.trees.now.left.coords.now a.p a.trees.now.right.items.now a.trees.now.right.coords.now a.right.from a.within.radius (edge_of a.within.edge) a.right.to distances held (filling a.self.now.found a.self.now.lout.now a.self.now.rout.now a.self.now.dout.now) l e in
     record { lefts = refl; rights = refl; distances = refl; same = λ h. h; put = stored [] (sym (none_pass _ _ (sym many ∙ c.if-m-eq0.true))) }
@@ -37,7 +37,7 @@ emit_all-self-requires-clause-emits c =
     let Passing : List ℕ → Type 0 = λ l. let a = c.args in l ≡ places_of (passing (edge_of a.within.edge) a.within.radius (row distances)) (a.right.to - a.right.from) in
     let held : let a = c.args in Holds distances (a.right.to - a.right.from) (sum_to a.trees.now.left.coords.now (length a.trees.now.left.items.now) a.p a.trees.now.right.coords.now (length a.trees.now.right.items.now) a.right.from a.trees.now.k) = let a = c.args in
     let tile = c.tile in
-    measured a.trees.now.k a.trees.now.left.items.now a.trees.now.left.coords.now a.p a.trees.now.right.items.now a.trees.now.right.coords.now a.right.from (a.right.to - a.right.from) c.first_axes.new.sums distances tile.result.now c.requires.point_tile.some_axes c.first_axes.ensures.holds tile.ensures.value tile.ensures.len c.last_axis-m.ensures.holds in
+    measured a.trees.now.k a.trees.now.left.items.now a.trees.now.left.coords.now a.p a.trees.now.right.items.now a.trees.now.right.coords.now a.right.from (a.right.to - a.right.from) c.first_axes.new.sums distances tile.result.now c.requires.point_tile.some_axes (rw (c.columns-one.ensures.number, c.columns-one.ensures.coords, c.columns-many.ensures.number, c.columns-many.ensures.coords) at c.first_axes.ensures.holds) tile.ensures.value tile.ensures.len c.last_axis-m.ensures.holds in
     let many : let a = c.args in c.last_axis-m.result ≡ hits (passing (edge_of a.within.edge) a.within.radius (row distances)) (a.right.to - a.right.from) = let a = c.args in
     let tile = c.tile in
     hits_row (edge_of a.within.edge) a.within.radius distances (reached c.first_axes.new.sums (get_or a.trees.now.left.coords.now ((a.trees.now.k - 1) * length a.trees.now.left.items.now + a.p) nan) tile.result.now) (a.right.to - a.right.from) (length tile.result.now) tile.ensures.len c.last_axis-m.ensures.holds c.last_axis-m.ensures.value in
@@ -54,7 +54,7 @@ returns-then-m-part-clause-gathered c =
     let Passing : List ℕ → Type 0 = λ l. let a = c.args in l ≡ places_of (passing (edge_of a.within.edge) a.within.radius (row distances)) (a.right.to - a.right.from) in
     let held : let a = c.args in Holds distances (a.right.to - a.right.from) (sum_to a.trees.now.left.coords.now (length a.trees.now.left.items.now) a.p a.trees.now.right.coords.now (length a.trees.now.right.items.now) a.right.from a.trees.now.k) = let a = c.args in
     let tile = c.tile in
-    measured a.trees.now.k a.trees.now.left.items.now a.trees.now.left.coords.now a.p a.trees.now.right.items.now a.trees.now.right.coords.now a.right.from (a.right.to - a.right.from) c.first_axes.new.sums distances tile.result.now c.requires.point_tile.some_axes c.first_axes.ensures.holds tile.ensures.value tile.ensures.len c.last_axis-m.ensures.holds in
+    measured a.trees.now.k a.trees.now.left.items.now a.trees.now.left.coords.now a.p a.trees.now.right.items.now a.trees.now.right.coords.now a.right.from (a.right.to - a.right.from) c.first_axes.new.sums distances tile.result.now c.requires.point_tile.some_axes (rw (c.columns-one.ensures.number, c.columns-one.ensures.coords, c.columns-many.ensures.number, c.columns-many.ensures.coords) at c.first_axes.ensures.holds) tile.ensures.value tile.ensures.len c.last_axis-m.ensures.holds in
     let stored : (l : List ℕ) → Passing l → let a = c.args in let s = filling a.self.now.found a.self.now.lout.now a.self.now.rout.now a.self.now.dout.now in puts s (pairs_at distances (get_or a.trees.now.left.items.now a.p 0) part l) ≡ puts s (of_point (keeps a.trees.now.k a.within.radius (edge_of a.within.edge) a.trees.now.left.items.now a.trees.now.left.coords.now a.trees.now.right.items.now a.trees.now.right.coords.now) a.p a.right.from a.right.to) = λ l e. let a = c.args in
     point_puts a.trees.now.k a.trees.now.left.items.now a.trees.now.left.coords.now a.p a.trees.now.right.items.now a.trees.now.right.coords.now a.right.from a.within.radius (edge_of a.within.edge) a.right.to distances held (filling a.self.now.found a.self.now.lout.now a.self.now.rout.now a.self.now.dout.now) l e in
     let many : let a = c.args in c.last_axis-m.result ≡ hits (passing (edge_of a.within.edge) a.within.radius (row distances)) (a.right.to - a.right.from) = let a = c.args in
@@ -71,7 +71,7 @@ emit-self-requires-clause-emits c =
     let Passing : List ℕ → Type 0 = λ l. let a = c.args in l ≡ places_of (passing (edge_of a.within.edge) a.within.radius (row distances)) (a.right.to - a.right.from) in
     let held : let a = c.args in Holds distances (a.right.to - a.right.from) (sum_to a.trees.now.left.coords.now (length a.trees.now.left.items.now) a.p a.trees.now.right.coords.now (length a.trees.now.right.items.now) a.right.from a.trees.now.k) = let a = c.args in
     let tile = c.tile in
-    measured a.trees.now.k a.trees.now.left.items.now a.trees.now.left.coords.now a.p a.trees.now.right.items.now a.trees.now.right.coords.now a.right.from (a.right.to - a.right.from) c.first_axes.new.sums distances tile.result.now c.requires.point_tile.some_axes c.first_axes.ensures.holds tile.ensures.value tile.ensures.len c.last_axis-m.ensures.holds in
+    measured a.trees.now.k a.trees.now.left.items.now a.trees.now.left.coords.now a.p a.trees.now.right.items.now a.trees.now.right.coords.now a.right.from (a.right.to - a.right.from) c.first_axes.new.sums distances tile.result.now c.requires.point_tile.some_axes (rw (c.columns-one.ensures.number, c.columns-one.ensures.coords, c.columns-many.ensures.number, c.columns-many.ensures.coords) at c.first_axes.ensures.holds) tile.ensures.value tile.ensures.len c.last_axis-m.ensures.holds in
     let many : let a = c.args in c.last_axis-m.result ≡ hits (passing (edge_of a.within.edge) a.within.radius (row distances)) (a.right.to - a.right.from) = let a = c.args in
     let tile = c.tile in
     hits_row (edge_of a.within.edge) a.within.radius distances (reached c.first_axes.new.sums (get_or a.trees.now.left.coords.now ((a.trees.now.k - 1) * length a.trees.now.left.items.now + a.p) nan) tile.result.now) (a.right.to - a.right.from) (length tile.result.now) tile.ensures.len c.last_axis-m.ensures.holds c.last_axis-m.ensures.value in
@@ -88,7 +88,7 @@ returns-clause-gathered c =
     let Passing : List ℕ → Type 0 = λ l. let a = c.args in l ≡ places_of (passing (edge_of a.within.edge) a.within.radius (row distances)) (a.right.to - a.right.from) in
     let held : let a = c.args in Holds distances (a.right.to - a.right.from) (sum_to a.trees.now.left.coords.now (length a.trees.now.left.items.now) a.p a.trees.now.right.coords.now (length a.trees.now.right.items.now) a.right.from a.trees.now.k) = let a = c.args in
     let tile = c.tile in
-    measured a.trees.now.k a.trees.now.left.items.now a.trees.now.left.coords.now a.p a.trees.now.right.items.now a.trees.now.right.coords.now a.right.from (a.right.to - a.right.from) c.first_axes.new.sums distances tile.result.now c.requires.point_tile.some_axes c.first_axes.ensures.holds tile.ensures.value tile.ensures.len c.last_axis-m.ensures.holds in
+    measured a.trees.now.k a.trees.now.left.items.now a.trees.now.left.coords.now a.p a.trees.now.right.items.now a.trees.now.right.coords.now a.right.from (a.right.to - a.right.from) c.first_axes.new.sums distances tile.result.now c.requires.point_tile.some_axes (rw (c.columns-one.ensures.number, c.columns-one.ensures.coords, c.columns-many.ensures.number, c.columns-many.ensures.coords) at c.first_axes.ensures.holds) tile.ensures.value tile.ensures.len c.last_axis-m.ensures.holds in
     let stored : (l : List ℕ) → Passing l → let a = c.args in let s = filling a.self.now.found a.self.now.lout.now a.self.now.rout.now a.self.now.dout.now in puts s (pairs_at distances (get_or a.trees.now.left.items.now a.p 0) part l) ≡ puts s (of_point (keeps a.trees.now.k a.within.radius (edge_of a.within.edge) a.trees.now.left.items.now a.trees.now.left.coords.now a.trees.now.right.items.now a.trees.now.right.coords.now) a.p a.right.from a.right.to) = λ l e. let a = c.args in
     point_puts a.trees.now.k a.trees.now.left.items.now a.trees.now.left.coords.now a.p a.trees.now.right.items.now a.trees.now.right.coords.now a.right.from a.within.radius (edge_of a.within.edge) a.right.to distances held (filling a.self.now.found a.self.now.lout.now a.self.now.rout.now a.self.now.dout.now) l e in
     let many : let a = c.args in c.last_axis-m.result ≡ hits (passing (edge_of a.within.edge) a.within.radius (row distances)) (a.right.to - a.right.from) = let a = c.args in

@@ -20,7 +20,7 @@ returns-then-not-gains c =
     let leaves : let a = c.args in LeafPair a.trees.now.k a.trees.now.left.items.now a.trees.now.left.coords.now c.places-left.result.from c.places-left.result.to a.trees.now.right.items.now a.trees.now.right.coords.now c.places-right.result.from c.places-right.result.to = leaves_read lent (here (boxes_of [] [])) (read (boxes_of [] [])) c.requires.leaves.pair in
     let a = c.args in
     let b = boxes_of a.boxes.now.min a.boxes.now.max in
-    no_gain lent (here b) a.items.now a.dists.now (read b) leaves c.requires.answering (boxes_of [] []) c.requires.box_no_farther (sym c.gains.ensures ∙ c.if-not-gains.true)
+    no_gain lent (here b) a.items.now a.dists.now (read b) leaves c.requires.answering (boxes_of [] []) c.requires.box_no_farther (sym (rw (c.columns.ensures.number, c.columns.ensures.coords) at c.gains.ensures) ∙ c.if-not-gains.true)
 
 pub returns : goal.returns
 returns c =
