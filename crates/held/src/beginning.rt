@@ -8,6 +8,10 @@ pub fn clear(items: &mut [u32], dists: &mut [f64])
     requires { length dists.old ≡ length items.old }
     ensures { answers items.new dists.new ≡ replicate (length items.old) unset }
 {
-    items.fill(0);
-    dists.fill(1.0 / 0.0);
+    let top = 1.0 / 0.0;
+    // One loop for both: `items.fill(0)` is a call of memset, and the archive for C needs no name from outside.
+    for i in 0..items.len() {
+        items[i] = 0;
+        dists[i] = top;
+    }
 }
