@@ -10,6 +10,8 @@ use metric::Within;
 use steps::Tally;
 
 // The left tree wholly, then the right; then the walk, which stores nothing when it counts.
+// Inlined into each export that calls it, as `pairs`.
+#[inline(always)]
 pub fn counts(trees: &Trees, within: Within) -> Result<Tally, Refusal>
     ensures { CountsTold (lent_trees trees.now) (edge_of within.edge) within.radius result }
 {

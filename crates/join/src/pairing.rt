@@ -19,7 +19,8 @@ fn rooms_agree(lout: &[u32], rout: &[u32], dout: &[f64]) -> bool
     lout.len() == rout.len() && rout.len() == dout.len()
 }
 
-// The left tree wholly, then the right, then the rooms; then the walk. That more pairs pass than the room holds is told after it (rule 9).
+// The left tree wholly, then the right, then the rooms; then the walk. That more pairs pass than the room holds is told after it (rule 9). Inlined into each export that calls it: by a call, a join of two points takes a fifteenth more instructions.
+#[inline(always)]
 pub fn pairs(
     trees: &Trees,
     within: Within,
